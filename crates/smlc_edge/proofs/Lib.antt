@@ -1,0 +1,4 @@
+pub mod Clear
+pub mod Kept
+pub mod Gained
+pub mod Places
