@@ -1,0 +1,258 @@
+//! The instruction table: each mnemonic with its format and the bits that tell it apart.
+
+ghost use Rattle.std.specs.Prelude.{◌≡◌};
+ghost use Rattle.rv_isa.specs.Table.{shape_of, op_at};
+
+/// A mnemonic of RV64IM.
+#[derive(Clone, Copy, Debug, PartialEq, Eq)]
+pub enum Op {
+    Lui,
+    Auipc,
+    Jal,
+    Jalr,
+    Beq,
+    Bne,
+    Blt,
+    Bge,
+    Bltu,
+    Bgeu,
+    Lb,
+    Lh,
+    Lw,
+    Ld,
+    Lbu,
+    Lhu,
+    Lwu,
+    Sb,
+    Sh,
+    Sw,
+    Sd,
+    Addi,
+    Slti,
+    Sltiu,
+    Xori,
+    Ori,
+    Andi,
+    Slli,
+    Srli,
+    Srai,
+    Add,
+    Sub,
+    Sll,
+    Slt,
+    Sltu,
+    Xor,
+    Srl,
+    Sra,
+    Or,
+    And,
+    Mul,
+    Mulh,
+    Mulhsu,
+    Mulhu,
+    Div,
+    Divu,
+    Rem,
+    Remu,
+    Addiw,
+    Slliw,
+    Srliw,
+    Sraiw,
+    Addw,
+    Subw,
+    Sllw,
+    Srlw,
+    Sraw,
+    Mulw,
+    Divw,
+    Divuw,
+    Remw,
+    Remuw,
+    Fence,
+    Ecall,
+    Ebreak,
+}
+
+/// How the operands of an instruction lie in its word: the base formats of the unprivileged manual,
+/// section 2.2, and the forms of the I-type that hold less than twelve bits of immediate.
+#[derive(Clone, Copy, Debug, PartialEq, Eq)]
+pub enum Format {
+    /// R-type: rd, rs1, rs2.
+    R,
+    /// I-type: rd, rs1 and an immediate of 12 bits.
+    I,
+    /// S-type: rs1, rs2 and an immediate of 12 bits.
+    S,
+    /// B-type: rs1, rs2 and an even offset of 13 bits.
+    B,
+    /// U-type: rd and the upper 20 bits of an immediate of 32 bits.
+    U,
+    /// J-type: rd and an even offset of 21 bits.
+    J,
+    /// I-type with a shift amount of six bits below bits 31..26.
+    Shift6,
+    /// I-type with a shift amount of five bits below bits 31..25.
+    Shift5,
+    /// ECALL and EBREAK: no operand.
+    Fixed,
+}
+
+/// What the table says of a mnemonic: its format, and its word with every operand 0, which holds
+/// opcode, funct3 and funct7.
+#[derive(Clone, Copy, Debug, PartialEq, Eq)]
+pub struct Shape {
+    pub format: Format,
+    pub key: u32,
+}
+
+impl Op {
+    /// The row of the table.
+    #[tactic(auto, unfolding(crate::specs::Table::shape_of))]
+    pub fn shape(self) -> Shape
+        ensures { result ≡ shape_of self }
+    {
+        let (format, key) = match self {
+            Op::Lui => (Format::U, 0x37),
+            Op::Auipc => (Format::U, 0x17),
+            Op::Jal => (Format::J, 0x6f),
+            Op::Jalr => (Format::I, 0x67),
+            Op::Beq => (Format::B, 0x63),
+            Op::Bne => (Format::B, 0x1063),
+            Op::Blt => (Format::B, 0x4063),
+            Op::Bge => (Format::B, 0x5063),
+            Op::Bltu => (Format::B, 0x6063),
+            Op::Bgeu => (Format::B, 0x7063),
+            Op::Lb => (Format::I, 0x3),
+            Op::Lh => (Format::I, 0x1003),
+            Op::Lw => (Format::I, 0x2003),
+            Op::Ld => (Format::I, 0x3003),
+            Op::Lbu => (Format::I, 0x4003),
+            Op::Lhu => (Format::I, 0x5003),
+            Op::Lwu => (Format::I, 0x6003),
+            Op::Sb => (Format::S, 0x23),
+            Op::Sh => (Format::S, 0x1023),
+            Op::Sw => (Format::S, 0x2023),
+            Op::Sd => (Format::S, 0x3023),
+            Op::Addi => (Format::I, 0x13),
+            Op::Slti => (Format::I, 0x2013),
+            Op::Sltiu => (Format::I, 0x3013),
+            Op::Xori => (Format::I, 0x4013),
+            Op::Ori => (Format::I, 0x6013),
+            Op::Andi => (Format::I, 0x7013),
+            Op::Slli => (Format::Shift6, 0x1013),
+            Op::Srli => (Format::Shift6, 0x5013),
+            Op::Srai => (Format::Shift6, 0x40005013),
+            Op::Add => (Format::R, 0x33),
+            Op::Sub => (Format::R, 0x40000033),
+            Op::Sll => (Format::R, 0x1033),
+            Op::Slt => (Format::R, 0x2033),
+            Op::Sltu => (Format::R, 0x3033),
+            Op::Xor => (Format::R, 0x4033),
+            Op::Srl => (Format::R, 0x5033),
+            Op::Sra => (Format::R, 0x40005033),
+            Op::Or => (Format::R, 0x6033),
+            Op::And => (Format::R, 0x7033),
+            Op::Mul => (Format::R, 0x2000033),
+            Op::Mulh => (Format::R, 0x2001033),
+            Op::Mulhsu => (Format::R, 0x2002033),
+            Op::Mulhu => (Format::R, 0x2003033),
+            Op::Div => (Format::R, 0x2004033),
+            Op::Divu => (Format::R, 0x2005033),
+            Op::Rem => (Format::R, 0x2006033),
+            Op::Remu => (Format::R, 0x2007033),
+            Op::Addiw => (Format::I, 0x1b),
+            Op::Slliw => (Format::Shift5, 0x101b),
+            Op::Srliw => (Format::Shift5, 0x501b),
+            Op::Sraiw => (Format::Shift5, 0x4000501b),
+            Op::Addw => (Format::R, 0x3b),
+            Op::Subw => (Format::R, 0x4000003b),
+            Op::Sllw => (Format::R, 0x103b),
+            Op::Srlw => (Format::R, 0x503b),
+            Op::Sraw => (Format::R, 0x4000503b),
+            Op::Mulw => (Format::R, 0x200003b),
+            Op::Divw => (Format::R, 0x200403b),
+            Op::Divuw => (Format::R, 0x200503b),
+            Op::Remw => (Format::R, 0x200603b),
+            Op::Remuw => (Format::R, 0x200703b),
+            Op::Fence => (Format::I, 0xf),
+            Op::Ecall => (Format::Fixed, 0x73),
+            Op::Ebreak => (Format::Fixed, 0x100073),
+        };
+        Shape { format, key }
+    }
+
+    /// The mnemonic with this key.
+    #[tactic(auto, unfolding(crate::specs::Table::op_at, crate::specs::Table::shape_of))]
+    pub fn at(key: u32) -> Option<Op>
+        ensures { result ≡ op_at key }
+    {
+        match key {
+            0x37 => Some(Op::Lui),
+            0x17 => Some(Op::Auipc),
+            0x6f => Some(Op::Jal),
+            0x67 => Some(Op::Jalr),
+            0x63 => Some(Op::Beq),
+            0x1063 => Some(Op::Bne),
+            0x4063 => Some(Op::Blt),
+            0x5063 => Some(Op::Bge),
+            0x6063 => Some(Op::Bltu),
+            0x7063 => Some(Op::Bgeu),
+            0x3 => Some(Op::Lb),
+            0x1003 => Some(Op::Lh),
+            0x2003 => Some(Op::Lw),
+            0x3003 => Some(Op::Ld),
+            0x4003 => Some(Op::Lbu),
+            0x5003 => Some(Op::Lhu),
+            0x6003 => Some(Op::Lwu),
+            0x23 => Some(Op::Sb),
+            0x1023 => Some(Op::Sh),
+            0x2023 => Some(Op::Sw),
+            0x3023 => Some(Op::Sd),
+            0x13 => Some(Op::Addi),
+            0x2013 => Some(Op::Slti),
+            0x3013 => Some(Op::Sltiu),
+            0x4013 => Some(Op::Xori),
+            0x6013 => Some(Op::Ori),
+            0x7013 => Some(Op::Andi),
+            0x1013 => Some(Op::Slli),
+            0x5013 => Some(Op::Srli),
+            0x40005013 => Some(Op::Srai),
+            0x33 => Some(Op::Add),
+            0x40000033 => Some(Op::Sub),
+            0x1033 => Some(Op::Sll),
+            0x2033 => Some(Op::Slt),
+            0x3033 => Some(Op::Sltu),
+            0x4033 => Some(Op::Xor),
+            0x5033 => Some(Op::Srl),
+            0x40005033 => Some(Op::Sra),
+            0x6033 => Some(Op::Or),
+            0x7033 => Some(Op::And),
+            0x2000033 => Some(Op::Mul),
+            0x2001033 => Some(Op::Mulh),
+            0x2002033 => Some(Op::Mulhsu),
+            0x2003033 => Some(Op::Mulhu),
+            0x2004033 => Some(Op::Div),
+            0x2005033 => Some(Op::Divu),
+            0x2006033 => Some(Op::Rem),
+            0x2007033 => Some(Op::Remu),
+            0x1b => Some(Op::Addiw),
+            0x101b => Some(Op::Slliw),
+            0x501b => Some(Op::Srliw),
+            0x4000501b => Some(Op::Sraiw),
+            0x3b => Some(Op::Addw),
+            0x4000003b => Some(Op::Subw),
+            0x103b => Some(Op::Sllw),
+            0x503b => Some(Op::Srlw),
+            0x4000503b => Some(Op::Sraw),
+            0x200003b => Some(Op::Mulw),
+            0x200403b => Some(Op::Divw),
+            0x200503b => Some(Op::Divuw),
+            0x200603b => Some(Op::Remw),
+            0x200703b => Some(Op::Remuw),
+            0xf => Some(Op::Fence),
+            0x73 => Some(Op::Ecall),
+            0x100073 => Some(Op::Ebreak),
+            _ => None,
+        }
+    }
+}
