@@ -1,0 +1,9 @@
+pub mod State
+pub mod View
+pub mod Progress
+pub mod Step
+pub mod Laws
+pub mod Reads
+pub mod Run
+pub mod Memory
+pub mod Load

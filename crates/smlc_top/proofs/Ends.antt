@@ -1,0 +1,164 @@
+-- what the straight code prints, and how a run of an image that prints a text ends
+use Rattle.std.proofs.Common.{◌≡◌, ℕ, suc, ◌+◌, ◌-◌, ◌*◌, ◌^◌, ◌<◌, ◌≤◌, List, [], ◌∷◌, ◌++◌, length, Option, arith, refl, sym, ap, subst, ◌∙◌}
+use Rattle.std.specs.Prelude.{All, replicate}
+use Rattle.std.proofs.lemmas.List.{append-nil, take_all}
+use Rattle.rv_isa.specs.declared.word.Ins.{Ins}
+use Rattle.rv_machine.specs.declared.hart.End.{End}
+use Rattle.rv_machine.specs.declared.hart.End.TheVariants as ended
+use Rattle.rv_machine.specs.State.{State}
+use Rattle.rv_machine.specs.Load.{loaded}
+use Rattle.rv_machine.specs.Run.{World, Cut, Mend, Runs, Exited, Trapped, Turn, behaviour, RunsTo, mend_of}
+use Rattle.smlc_top.specs.Code.{bytes_of, pieces_code, whole_code, data_at, image_of, IsStraight}
+use Rattle.rv_machine.specs.declared.image.Image.{Image}
+use Rattle.smlc_top.specs.declared.outcome.Outcome.{Outcome}
+use Rattle.smlc_top.specs.Clause.{Tally, Came, Ran}
+use Rattle.smlc_top.specs.Prints.{begun, Prints}
+use Rattle.smlc_top.specs.Reader.{IsPositive, total}
+use Rattle.smlc_top.specs.Write.{IsPrefix}
+use Rattle.smlc_top.proofs.Reach.{reaches_end, Wrote, behaviour-more, behaviour-ended}
+use Rattle.smlc_top.proofs.Fetch.{At}
+use Rattle.smlc_top.proofs.Straight.{run_code, Finishes}
+
+-- ---- sizes
+
+length-bytes_of : (is : List Ins) → length (bytes_of is) ≡ 4 * length is
+length-bytes_of [] = refl
+length-bytes_of (i ∷ is) = let again = length-bytes_of is in omega (arith, again)
+
+length-pieces_code : (ns : List ℕ) → length (pieces_code ns) ≡ 8 * length ns + 3
+length-pieces_code [] = refl
+length-pieces_code (n ∷ ns) = let again = length-pieces_code ns in omega (arith, again)
+
+pub length-code : (ns : List ℕ) → length (bytes_of (whole_code ns)) ≡ 32 * length ns + 16
+length-code ns = omega (arith, length-bytes_of (whole_code ns), length-pieces_code ns)
+
+pub pieces-total : (ns : List ℕ) → All IsPositive ns → length ns ≤ total ns
+pieces-total [] h = omega arith
+pieces-total (n ∷ ns) h =
+    let some : 0 < n = h 0 n (omega arith) in
+    let again : length ns ≤ total ns = pieces-total ns (λ k d p. h (suc k) d (omega arith)) in
+    omega arith
+
+front_nothing : (front rest : List ℕ) → front ++ rest ≡ [] → front ≡ []
+front_nothing [] rest h = refl
+front_nothing (x ∷ front) rest h = absurd (cc)
+
+-- ---- two behaviours that have ended
+
+is_ended : (m : Mend) → (m ≡ Runs → ⊥) → Type 0
+is_ended m h = Unit {0}
+
+same_end : (n m : ℕ) (w : World) (c : List Cut) → ((behaviour n w c).mend ≡ Runs → ⊥) → ((behaviour m w c).mend ≡ Runs → ⊥) → behaviour n w c ≡ behaviour m w c
+same_end n m w c p q =
+    let a = behaviour-ended n m w c p in
+    let b = behaviour-ended m n w c q in
+    let k : a.0 ≡ b.0 = omega (arith, a.1, b.1) in
+    sym a.2 ∙ ap (λ (k : ℕ). behaviour k w c) k ∙ b.2
+
+-- what an end says
+abbrev pub Concludes : End → List ℕ → List ℕ → List ℕ → Type 0
+Concludes (ended.Exit n) text out err = (n ≡ 0) × (out ≡ text) × (err ≡ [])
+Concludes (ended.Trap pc word) text out err = ⊥
+Concludes ended.Steps text out err = ⊥
+Concludes ended.ReadFault text out err = IsPrefix out text × (err ≡ [])
+Concludes ended.WriteFault text out err = IsPrefix out text × (err ≡ [])
+
+module _ (text : List ℕ) (w : World) (c : List Cut) (last : ℕ)
+    (exits : (behaviour last w c).mend ≡ Exited 0) (out_is : (behaviour last w c).world.out ≡ text) (err_is : (behaviour last w c).world.err ≡ []) where
+  done_ends : (behaviour last w c).mend ≡ Runs → ⊥
+  done_ends h = absurd (cc)
+
+  prefix : (n : ℕ) (v : World) → (behaviour n w c).world ≡ v → IsPrefix v.out text × (v.err ≡ [])
+  prefix n v h =
+      let a = behaviour-more n last w c in
+      let b = behaviour-ended last n w c done_ends in
+      let k : a.0 ≡ b.0 = omega (arith, a.1, b.1) in
+      let same : (behaviour a.0 w c).world ≡ (behaviour last w c).world = ap (λ (k : ℕ). (behaviour k w c).world) k ∙ ap (λ (t : Turn). t.world) b.2 in
+      let m : Wrote (behaviour n w c).world (behaviour last w c).world = subst (λ (u : World). Wrote (behaviour n w c).world u) same a.2 in
+      let m' : Wrote v (behaviour last w c).world = subst (λ (u : World). Wrote u (behaviour last w c).world) h m in
+      ((m'.more, sym out_is ∙ m'.out), front_nothing v.err m'.more_err (sym m'.err ∙ err_is))
+
+  pub concludes : (end : End) (n steps : ℕ) (t : World) (d : List Cut) → behaviour n w c ≡ record { mend = mend_of end; world = t; cuts = d } → (end ≡ ended.Steps → n ≡ steps) → last ≤ steps → Concludes end text t.out t.err
+  concludes (ended.Exit x) n steps t d h all enough =
+      let stops : (behaviour n w c).mend ≡ Runs → ⊥ = λ r. let e : (behaviour n w c).mend ≡ Exited x = ap (λ (t : Turn). t.mend) h in absurd (cc) in
+      let same = sym h ∙ same_end n last w c stops done_ends in
+      let m : Exited x ≡ Exited 0 = ap (λ (t : Turn). t.mend) same ∙ exits in
+      (cc, ap (λ (t : Turn). t.world.out) same ∙ out_is, ap (λ (t : Turn). t.world.err) same ∙ err_is)
+  concludes (ended.Trap pc word) n steps t d h all enough =
+      let stops : (behaviour n w c).mend ≡ Runs → ⊥ = λ r. let e : (behaviour n w c).mend ≡ Trapped pc word = ap (λ (t : Turn). t.mend) h in absurd (cc) in
+      let same = sym h ∙ same_end n last w c stops done_ends in
+      let m : Trapped pc word ≡ Exited 0 = ap (λ (t : Turn). t.mend) same ∙ exits in
+      absurd (cc)
+  concludes ended.Steps n steps t d h all enough =
+      let b = behaviour-ended last (n - last) w c done_ends in
+      let k : b.0 ≡ n = omega (arith, b.1, all refl) in
+      let e : Runs ≡ Exited 0 = sym (ap (λ (t : Turn). t.mend) h) ∙ ap (λ (k : ℕ). (behaviour k w c).mend) (sym k) ∙ ap (λ (t : Turn). t.mend) b.2 ∙ exits in
+      absurd (cc)
+  concludes ended.ReadFault n steps t d h all enough = prefix n t (ap (λ (t : Turn). t.world) h)
+  concludes ended.WriteFault n steps t d h all enough = prefix n t (ap (λ (t : Turn). t.world) h)
+
+-- ---- the image
+
+memory_is : (code text : List ℕ) → (code ++ replicate (length code - length code) 0) ++ ((text ++ replicate (length text - length text) 0) ++ []) ≡ code ++ text
+memory_is code text =
+    let none : length code - length code ≡ 0 = omega arith in
+    let none' : length text - length text ≡ 0 = omega arith in
+    rw (none, none', append-nil code) (ap (λ (z : List ℕ). code ++ z) (append-nil (text ++ []) ∙ append-nil text))
+
+-- the image of pieces prints their text
+pub straight_prints : (lengths text : List ℕ) → IsStraight lengths text → Prints (image_of lengths text) text (64 * (1 + length text))
+straight_prints lengths text s = λ input cuts.
+    let code = bytes_of (whole_code lengths) in
+    let d = data_at lengths in
+    let few : length lengths ≤ 1048576 = omega (arith, pieces-total lengths s.positive, s.sums, s.bounded) in
+    let size = length-code lengths in
+    let apart : 65536 + length code ≤ d = omega (arith, size) in
+    let bounded : d + length text < 2 ^ 40 = omega (arith, s.bounded) in
+    let w : World = begun (image_of lengths text) input in
+    let bytes : w.state.bytes ≡ code ++ text = memory_is code text in
+    let at : At code text d 65536 w.state = record { pc_is = refl; bytes_is = bytes; areas_is = refl; regs_are = refl } in
+    let f : Finishes code text d apart bounded (8 * total lengths + 3) (length text) w cuts = run_code code text d apart bounded lengths w cuts refl at refl refl s.positive s.sums s.bounded (omega arith) (omega arith) in
+    let comes = reaches_end f.leads.count w f.world cuts f.cuts (Exited 0) f.leads.reaches f.exits in
+    record {
+      count = suc f.leads.count;
+      within = omega (arith, f.leads.within, s.sums);
+      exits = ap (λ (t : Turn). t.mend) comes;
+      out = ap (λ (t : Turn). t.world.out) comes ∙ f.out ∙ take_all (length text) text (omega arith);
+      err = ap (λ (t : Turn). t.world.err) comes ∙ f.err;
+    }
+
+-- more instructions may be done
+pub prints-more : (image : Image) (text : List ℕ) (few most : ℕ) → few ≤ most → Prints image text few → Prints image text most
+prints-more image text few most p h = λ input cuts.
+    let k = h input cuts in
+    record { count = k.count; within = omega (arith, k.within); exits = k.exits; out = k.out; err = k.err }
+
+-- what a run of an image that prints a text comes to
+pub run_concludes : (image : Image) (text : List ℕ) (steps : ℕ) (t : State) (left left_now out out_now err err_now : Option (List ℕ)) (end : End) → Prints image text steps →
+    (r : RunsTo steps (loaded image) t left left_now out out_now err err_now end) → Concludes end text r.wrote r.wrote_err
+run_concludes image text steps t left left_now out out_now err err_now end prints r =
+    let c = r.ran.cuts ++ [] in
+    let k = prints left c in
+    concludes text (begun image left) c k.count k.exits k.out k.err
+    end r.count steps (record { state = r.reached; input = r.ran.known; out = r.wrote; err = r.wrote_err }) [] (r.ran.ran []) r.all k.within
+
+-- such a run, with what was written, as what it came to
+pub came : (image : Image) (text : List ℕ) (steps : ℕ) (begun t : State) (left left_now out out_now err err_now : Option (List ℕ)) (end : End) → Prints image text steps → begun ≡ loaded image →
+    RunsTo steps begun t left left_now out out_now err err_now end → (before now : Tally) (o : Outcome) → ((w e : List ℕ) → Concludes end text w e → Ran text before now w e o) →
+    Came out out_now err err_now (λ wrote wrote_err. Ran text before now wrote wrote_err o)
+came image text steps begun t left left_now out out_now err err_now end prints p r before now o says =
+    let r' : RunsTo steps (loaded image) t left left_now out out_now err err_now end = subst (λ (x : State). RunsTo steps x t left left_now out out_now err err_now end) p r in
+    record {
+      wrote = r'.wrote;
+      wrote_err = r'.wrote_err;
+      gains = r'.gains;
+      gains_err = r'.gains_err;
+      says = says r'.wrote r'.wrote_err (run_concludes image text steps t left left_now out out_now err err_now end prints r');
+    }
+
+-- what the end of such a run says
+pub run_came : (image : Image) (text : List ℕ) (steps : ℕ) (begun t : State) (left left_now out out_now err err_now : Option (List ℕ)) (end : End) → Prints image text steps → begun ≡ loaded image →
+    RunsTo steps begun t left left_now out out_now err err_now end → (w : List ℕ) × (e : List ℕ) × Concludes end text w e
+run_came image text steps begun t left left_now out out_now err err_now end prints p r =
+    let r' : RunsTo steps (loaded image) t left left_now out out_now err err_now end = subst (λ (x : State). RunsTo steps x t left left_now out out_now err err_now end) p r in
+    (r'.wrote, r'.wrote_err, run_concludes image text steps t left left_now out out_now err err_now end prints r')

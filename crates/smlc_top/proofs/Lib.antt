@@ -1,0 +1,15 @@
+pub mod Reach
+pub mod Fetch
+pub mod FitsCode
+pub mod Exec
+pub mod Straight
+pub mod Ends
+pub mod Written
+pub mod Quoted
+pub mod Chain
+pub mod Loadable
+pub mod Lines
+pub mod Words
+pub mod Answering
+pub mod Faults
+pub mod Single

@@ -1,0 +1,10 @@
+pub mod Form
+pub mod Reader
+pub mod Code
+pub mod Prints
+pub mod Command
+pub mod Texts
+pub mod Write
+pub mod Outcome
+pub mod Clause
+pub mod Laws

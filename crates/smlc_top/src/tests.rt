@@ -1,0 +1,205 @@
+//! The command on files, faults and sinks of all kinds.
+
+use super::*;
+use smlc_edge::{Failed, MemSink, MemSource, MemStore, QuietSink, QuietSource, Sink};
+use std::alloc::Global;
+use std::test::Fail;
+
+/// A file, the numbers of the calls of `store` and `out` that are to fail, and what comes of it.
+struct Case {
+    file: &'static str,
+    store: &'static [u64],
+    out: &'static [u64],
+    written: &'static str,
+    error: &'static str,
+    status: u8,
+}
+
+const CASES: &[Case] = &[
+    Case {
+        file: "val _ = print \"hello\\n\"\n",
+        store: &[],
+        out: &[],
+        written: "hello\n",
+        error: "",
+        status: 0,
+    },
+    Case {
+        file: "",
+        store: &[],
+        out: &[],
+        written: "",
+        error: "",
+        status: 0,
+    },
+    Case {
+        file: "\nval _ = print \"a\\\"\\\\\"\n\nval _ = print \"b\"",
+        store: &[],
+        out: &[],
+        written: "a\"\\b",
+        error: "",
+        status: 0,
+    },
+    Case {
+        file: "val x = 1\n",
+        store: &[],
+        out: &[],
+        written: "",
+        error: "f.sml:1:1: refused 6 NotInSubset later\n",
+        status: 2,
+    },
+    Case {
+        file: "val _ = print \"a\"\nval _ = print \"b\" \n",
+        store: &[],
+        out: &[],
+        written: "",
+        error: "f.sml:2:1: refused 6 NotInSubset later\n",
+        status: 2,
+    },
+    Case {
+        file: "val _ = print \"ab\"\nval _ = print \"cd\"\n",
+        store: &[],
+        out: &[2],
+        written: "ab",
+        error: "fault out\n",
+        status: 5,
+    },
+    Case {
+        file: "val _ = print \"ab\"\nval _ = print \"cd\"\n",
+        store: &[1],
+        out: &[],
+        written: "",
+        error: "fault store f.sml\n",
+        status: 5,
+    },
+];
+
+fn words(alloc: Global, names: &[&str]) -> Result<Vec<String>, Fail> {
+    let mut words = Vec::new(alloc);
+    for name in names {
+        words.push(name.to_string(alloc)?)?;
+    }
+    Ok(words)
+}
+
+#[test]
+fn files_and_faults(rt: HostRuntime) -> Result<(), Fail> {
+    let alloc = rt.alloc();
+    for case in CASES {
+        let mut store = MemStore::new(alloc, case.store.to_vec(alloc)?);
+        store.add("f.sml", case.file.as_bytes())?;
+        let mut input = MemSource::new(Vec::new(alloc), Vec::new(alloc));
+        let mut out = MemSink::new(alloc, case.out.to_vec(alloc)?);
+        out.reserve(100)?;
+        let mut err = MemSink::new(alloc, Vec::new(alloc));
+        err.reserve(100)?;
+        let words = words(alloc, &["smlc", "run", "f.sml"])?;
+        let status = smlc_main(alloc, &words, &mut store, &mut input, &mut out, &mut err);
+        assert_eq!(rt; status, case.status, "of {}", case.file);
+        assert_eq!(rt; out.bytes(), case.written.as_bytes(), "by {}", case.file);
+        assert_eq!(rt; err.bytes(), case.error.as_bytes(), "of {}", case.file);
+    }
+    Ok(())
+}
+
+/// A sink that takes one byte at a time, and keeps the first of them.
+#[derive(Drop)]
+struct OneByte {
+    kept: [u8; 8],
+    len: usize,
+}
+
+impl Sink for OneByte {
+    ghost use Rattle.std.specs.Prelude.{None};
+
+    ghost taken = { λ s. None };
+
+    ghost faults = { λ s. 0 };
+
+    ghost sure = { λ s. ⊥ };
+
+    fn faults(&self) -> u64 {
+        0
+    }
+
+    fn put(&mut self, piece: &[u8]) -> Result<usize, Failed> {
+        let [first, ..] = piece else {
+            return Ok(0);
+        };
+        if self.len < 8 {
+            self.kept[self.len] = *first;
+            self.len += 1;
+        }
+        Ok(1)
+    }
+}
+
+#[test]
+fn a_sink_of_one_byte(rt: HostRuntime) -> Result<(), Fail> {
+    let alloc = rt.alloc();
+    let mut store = MemStore::new(alloc, Vec::new(alloc));
+    store.add("f.sml", b"val _ = print \"ab\"\nval _ = print \"cd\"\n")?;
+    let mut input = QuietSource::new(Vec::new(alloc));
+    let mut out = OneByte {
+        kept: [0; 8],
+        len: 0,
+    };
+    let mut err = QuietSink::new();
+    let words = words(alloc, &["smlc", "run", "f.sml"])?;
+    let status = smlc_main(alloc, &words, &mut store, &mut input, &mut out, &mut err);
+    assert_eq!(rt; status, 0);
+    assert_eq!(rt; out.kept, *b"abcd\0\0\0\0");
+    Ok(())
+}
+
+#[test]
+fn a_file_of_the_greatest_length(rt: HostRuntime) -> Result<(), Fail> {
+    let alloc = rt.alloc();
+    let words = words(alloc, &["smlc", "run", "f.sml"])?;
+    for (size, want) in [(1_048_576, 0), (1_048_577, 2)] {
+        let file = vec![in alloc; 10u8; size]?;
+        let mut store = MemStore::new(alloc, Vec::new(alloc));
+        store.add("f.sml", &file)?;
+        let mut input = QuietSource::new(Vec::new(alloc));
+        let mut out = QuietSink::new();
+        let mut err = MemSink::new(alloc, Vec::new(alloc));
+        err.reserve(100)?;
+        let status = smlc_main(alloc, &words, &mut store, &mut input, &mut out, &mut err);
+        assert_eq!(rt; status, want);
+        let line = if want == 0 {
+            ""
+        } else {
+            "f.sml:1:1: refused 7 TooLong\n"
+        };
+        assert_eq!(rt; err.bytes(), line.as_bytes());
+    }
+    Ok(())
+}
+
+#[test]
+fn words_that_are_no_command(rt: HostRuntime) -> Result<(), Fail> {
+    let alloc = rt.alloc();
+    let cases: [&[&str]; 6] = [
+        &[],
+        &["smlc"],
+        &["smlc", "run"],
+        &["smlc", "run", "-f"],
+        &["smlc", "compile", "f.sml"],
+        &["smlc", "run", "f.sml", "g.sml"],
+    ];
+    for case in cases {
+        let mut store = MemStore::new(alloc, Vec::new(alloc));
+        let mut input = QuietSource::new(Vec::new(alloc));
+        let mut out = QuietSink::new();
+        let mut err = MemSink::new(alloc, Vec::new(alloc));
+        err.reserve(100)?;
+        let words = words(alloc, case)?;
+        let status = smlc_main(alloc, &words, &mut store, &mut input, &mut out, &mut err);
+        assert_eq!(rt; status, 7);
+        assert_eq!(rt;
+            err.bytes(),
+            b"usage: smlc compile|run|meter|exec|types|plan|gen|bench\n".as_slice()
+        );
+    }
+    Ok(())
+}
