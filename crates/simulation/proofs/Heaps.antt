@@ -3,11 +3,24 @@ use Rattle.std.proofs.Common.{map, slice_get, ◌≡◌, ◌≢◌, ℕ, zero, s
 use Rattle.std.proofs.lemmas.Bool.{cases_lt}
 use Rattle.std.proofs.lemmas.Option.{slice_get_within}
 use Rattle.smlc_base.specs.declared.point.Point.{Point}
-use Rattle.simulation.specs.Blocks.{Kind, Datum, ClassRecord, SpillRecord, Block, IsAmong, points_of, StandsAt, Reach, root, field, AreOfOneSort, IsCounted, IsLike, Embeds}
+use Rattle.simulation.specs.Blocks.{Kind, Closure, Frame, Datum, ClassRecord, SpillRecord, Inside, Block, IsAmong, points_of, StandsAt, Reach, root, field, AreOfOneSort, IsCounted, IsLike, Embeds}
 use Rattle.simulation.proofs.Blocks.{reach_least, like_same, sort_same}
 
-abbrev pub IsRecord : Block → Type 0
-IsRecord x = (x.kind ≡ ClassRecord) ⊎ (x.kind ≡ SpillRecord)
+-- it stands outside the maps: a class record, a spill record, or no block at all
+abbrev pub IsUncounted : Block → Type 0
+IsUncounted x = IsCounted x → ⊥
+
+kind_cases : (k : Kind) (w : ℕ) (fields : List ℕ) → let x : Block = record { kind = k; words = w; fields = fields } in IsCounted x ⊎ IsUncounted x
+kind_cases (Closure p) w fields = inl (inr (p, inl refl, inl refl))
+kind_cases (Frame []) w fields = inr (λ h. ⊎_elim (λ (e : (Frame [] ≡ Datum) × (Frame [] ≡ Datum)). let f = e.0 in cc) (λ (e : (p : Point) × IsAmong p [] × IsAmong p []). e.1) h)
+kind_cases (Frame (p ∷ ps)) w fields = inl (inr (p, inl refl, inl refl))
+kind_cases Datum w fields = inl (inl (refl, refl))
+kind_cases ClassRecord w fields = inr (λ h. ⊎_elim (λ (e : (ClassRecord ≡ Datum) × (ClassRecord ≡ Datum)). let f = e.0 in cc) (λ (e : (p : Point) × IsAmong p [] × IsAmong p []). e.1) h)
+kind_cases SpillRecord w fields = inr (λ h. ⊎_elim (λ (e : (SpillRecord ≡ Datum) × (SpillRecord ≡ Datum)). let f = e.0 in cc) (λ (e : (p : Point) × IsAmong p [] × IsAmong p []). e.1) h)
+kind_cases Inside w fields = inr (λ h. ⊎_elim (λ (e : (Inside ≡ Datum) × (Inside ≡ Datum)). let f = e.0 in cc) (λ (e : (p : Point) × IsAmong p [] × IsAmong p []). e.1) h)
+
+pub counted_cases : (x : Block) → IsCounted x ⊎ IsUncounted x
+counted_cases x = kind_cases x.kind x.words x.fields
 
 abbrev pub All : ℕ → Type 0
 All a = Unit {0}
@@ -21,13 +34,13 @@ eq_cases a b =
 abbrev pub Extends : List Block → List Block → Type 0
 Extends old new = (a : ℕ) (x : Block) → StandsAt old a x → StandsAt new a x
 
--- from a to b through records alone
+-- from a to b through what isn't counted alone
 pub data Through (memory : List Block) : ℕ → ℕ → Type 0 where
   here : (a : ℕ) → Through memory a a
-  on : (a r b : ℕ) (x : Block) → StandsAt memory a x → IsRecord x → IsAmong r x.fields → Through memory r b → Through memory a b
+  on : (a r b : ℕ) (x : Block) → StandsAt memory a x → IsUncounted x → IsAmong r x.fields → Through memory r b → Through memory a b
 
 -- such a way is none, or its first step
-pub through_cases : (memory : List Block) (a b : ℕ) → Through memory a b → (a ≡ b) ⊎ ((x : Block) × (r : ℕ) × StandsAt memory a x × IsRecord x × IsAmong r x.fields × Through memory r b)
+pub through_cases : (memory : List Block) (a b : ℕ) → Through memory a b → (a ≡ b) ⊎ ((x : Block) × (r : ℕ) × StandsAt memory a x × IsUncounted x × IsAmong r x.fields × Through memory r b)
 through_cases memory a b (here c) = inl refl
 through_cases memory a b (on c r d x s k mem t) = inr (x, r, s, k, mem, t)
 
@@ -62,7 +75,6 @@ leads_extends m m' a b h (inr l) = inr (l.0, h a l.0 l.1, from_kept m m' l.0.fie
 pub record IsHeapMap (small large : List Block) (f : ℕ → ℕ) : Type 0 where
   pub embeds : Embeds small All large All f
   pub within : (a i : ℕ) (x : Block) → StandsAt small a x → IsAmong i x.fields → i < length small
-  pub sorted : (a : ℕ) (x : Block) → StandsAt small a x → IsCounted x ⊎ IsRecord x
   pub leads : (a i b : ℕ) (x y : Block) → StandsAt small a x → IsCounted x → IsAmong i x.fields → Through small i b → StandsAt small b y → IsCounted y → Leads large (f a) (f b)
 
 -- what the roots of the smaller name leads along the roots of the larger
@@ -76,7 +88,7 @@ heap_reaches small large f rs rl h start =
     let Q : ℕ → Type 0 = λ a. (b : ℕ) (y : Block) → Through small a b → StandsAt small b y → IsCounted y → Reach large rl (f b) in
     let all = reach_least small rs Q (λ a i b y t s c. from_reach large rl rl (f b) (start a b y i t s c) (λ r j. root r j)) (λ a i x q s mem b y t u c.
     ⊎_elim (λ (k : IsCounted x). leads_reach large rl (f a) (f b) (h.leads a i b x y s k mem t u c) (q a x (here a) s k))
-    (λ (k : IsRecord x). q b y (on a i b x s k mem t) u c) (h.sorted a x s)) in
+    (λ (k : IsUncounted x). q b y (on a i b x s k mem t) u c) (counted_cases x)) in
     record {
       image = λ a x r s c.
           let i = h.embeds.image a x tt s c in
@@ -115,7 +127,6 @@ pub record IsMore (small small' large large' : List Block) (f f' : ℕ → ℕ) 
   pub image : (a : ℕ) (x : Block) → length small ≤ a → StandsAt small' a x → IsCounted x → (y : Block) × StandsAt large' (f' a) y × IsLike x y
   pub apart : (a b : ℕ) (x y : Block) → length small ≤ a → StandsAt small' a x → StandsAt small' b y → AreOfOneSort x y → f' a ≡ f' b → a ≡ b
   pub within : (a i : ℕ) (x : Block) → length small ≤ a → StandsAt small' a x → IsAmong i x.fields → i < length small'
-  pub sorted : (a : ℕ) (x : Block) → length small ≤ a → StandsAt small' a x → IsCounted x ⊎ IsRecord x
   pub leads : (a i b : ℕ) (x y : Block) → length small ≤ a → StandsAt small' a x → IsCounted x → IsAmong i x.fields → Through small' i b → StandsAt small' b y → IsCounted y → Leads large' (f' a) (f' b)
 
 -- from an old address only old ones are come to through records
@@ -167,7 +178,6 @@ module _ (small small' large large' : List Block) (f f' : ℕ → ℕ) (h : IsHe
     within = λ a i x s mem.
         ⊎_elim (λ (l : a < length small). let w = h.within a i x (old a x l s) mem in let g = m.longer in omega arith)
         (λ (l : length small ≤ a). m.within a i x l s mem) (cases_lt a (length small));
-    sorted = λ a x s. ⊎_elim (λ (l : a < length small). h.sorted a x (old a x l s)) (λ (l : length small ≤ a). m.sorted a x l s) (cases_lt a (length small));
     leads = more_leads;
   }
 
@@ -199,41 +209,27 @@ heap_large small large large' f e h = record {
     apart = h.embeds.apart;
   };
   within = h.within;
-  sorted = h.sorted;
   leads = λ a i b x y s k mem t u c. leads_extends large large' (f a) (f b) e (h.leads a i b x y s k mem t u c);
 }
 
--- the smaller makes a record of variables, which stands outside the map
-pub heap_record : (small large : List Block) (f : ℕ → ℕ) (x : Block) → IsRecord x → ((i : ℕ) → IsAmong i x.fields → i < suc (length small)) → IsHeapMap small large f → IsHeapMap (small ++ x ∷ []) large f
+-- the smaller makes a block that stands outside the map
+pub heap_record : (small large : List Block) (f : ℕ → ℕ) (x : Block) → IsUncounted x → ((i : ℕ) → IsAmong i x.fields → i < suc (length small)) → IsHeapMap small large f → IsHeapMap (small ++ x ∷ []) large f
 heap_record small large f x r w h =
     heap_more small (small ++ x ∷ []) large large f f h (record {
       small_extends = extends_append small (x ∷ []);
       large_extends = extends_refl large;
       agrees = λ a l. refl;
       longer = omega (arith, length-append small (x ∷ []));
-      image = λ a y l s c. absurd (no_record y (is_one a y l s) c);
-      apart = λ a b y z l s t c e. absurd (no_record y (is_one a y l s) (sort_first y z c));
+      image = λ a y l s c. absurd (is_one a y l s c);
+      apart = λ a b y z l s t c e. absurd (is_one a y l s (sort_first y z c));
       within = λ a i y l s mem.
           let v = w i (subst (λ t. IsAmong i t.fields) (stands_past small x y a l s).1 mem) in
           omega (arith, length-append small (x ∷ []));
-      sorted = λ a y l s. inr (is_one a y l s);
-      leads = λ a i b y z l s k mem t u c. absurd (no_record y (is_one a y l s) k);
+      leads = λ a i b y z l s k mem t u c. absurd (is_one a y l s k);
     })
   where
-    is_one : (a : ℕ) (y : Block) → length small ≤ a → StandsAt (small ++ x ∷ []) a y → IsRecord y
-    is_one a y l s = subst IsRecord (sym (stands_past small x y a l s).1) r
-
-    no_points : (k : Kind) (p : Point) → (k ≡ ClassRecord) ⊎ (k ≡ SpillRecord) → IsAmong p (points_of k) → ⊥
-    no_points k p (inl e) i = subst (λ t. IsAmong p (points_of t)) e i
-    no_points k p (inr e) i = subst (λ t. IsAmong p (points_of t)) e i
-
-    no_datum : (k : Kind) → (k ≡ ClassRecord) ⊎ (k ≡ SpillRecord) → k ≡ Datum → ⊥
-    no_datum k (inl e) d = cc
-    no_datum k (inr e) d = cc
-
-    no_record : (y : Block) → IsRecord y → IsCounted y → ⊥
-    no_record y k (inl c) = no_datum y.kind k c.0
-    no_record y k (inr c) = no_points y.kind c.0 k c.1
+    is_one : (a : ℕ) (y : Block) → length small ≤ a → StandsAt (small ++ x ∷ []) a y → IsUncounted y
+    is_one a y l s = subst IsUncounted (sym (stands_past small x y a l s).1) r
 
 -- f, and c for the address a
 abbrev pub with_image : (ℕ → ℕ) → ℕ → ℕ → ℕ → ℕ
@@ -273,7 +269,6 @@ heap_block small large f x y c st like counted fresh w on_fields h =
       within = λ a i z l s mem.
           let v = w i (subst (λ t. IsAmong i t.fields) (stands_past small x z a l s).1 mem) in
           omega (arith, length-append small (x ∷ []));
-      sorted = λ a z l s. inl (subst IsCounted (sym (stands_past small x z a l s).1) counted);
       leads = λ a i b z z' l s k mem t u q.
           let p = stands_past small x z a l s in
           let v = on_fields i b z' (subst (λ t. IsAmong i t.fields) p.1 mem) t u q in
@@ -307,10 +302,6 @@ set_kept old new r x y h a z s k =
     let g : x ≡ z = cc in
     k (subst (λ t. t.kind ≡ Datum) g h.datum)) s
 
-record_no_datum : (k : Kind) → (k ≡ ClassRecord) ⊎ (k ≡ SpillRecord) → k ≢ Datum
-record_no_datum k (inl e) d = cc
-record_no_datum k (inr e) d = cc
-
 module _ (small small' large large' : List Block) (f : ℕ → ℕ) (r : ℕ) (x y x' y' : Block) (h : IsHeapMap small large f) (p : IsSet small small' r x y) (q : IsSet large large' (f r) x' y') where
   -- a block of the new memory is one of the old at the same address, of the same kind and length
   before : (a : ℕ) (z : Block) → StandsAt small' a z → (o : Block) × StandsAt small a o × (o.kind ≡ z.kind) × (o.words ≡ z.words) × ((a ≢ r) → o ≡ z)
@@ -329,7 +320,7 @@ module _ (small small' large large' : List Block) (f : ℕ → ℕ) (r : ℕ) (x
       let n : c ≢ r = λ g.
       let u : Some y ≡ Some z = sym p.is ∙ subst (λ t. StandsAt small' t z) g s in
       let v : y ≡ z = cc in
-      record_no_datum z.kind k (ap (λ t. t.kind) (sym v) ∙ p.kind) in
+      let d : z.kind ≡ Datum = ap (λ t. t.kind) (sym v) ∙ p.kind in k (inl (d, d)) in
       on c d e z (p.only c z n s) k mem (set_through d e t)
 
   set_stands : (a : ℕ) (z : Block) → StandsAt large (f a) z → (f a ≢ f r) → StandsAt large' (f a) z
@@ -363,10 +354,6 @@ module _ (small small' large large' : List Block) (f : ℕ → ℕ) (r : ℕ) (x
         let l = p.as_long in omega arith)
         (λ (n : a ≢ r). let v = h.within a i z (p.only a z n s) mem in let l = p.as_long in omega arith)
         (eq_cases a r);
-    sorted = λ a z s.
-        let o = before a z s in
-        ⊎_elim (λ (c : IsCounted o.0). inl (sort_same o.0 z o.0 z (sym o.2) (sym o.2) c))
-        (λ (k : IsRecord o.0). inr (⊎_elim (λ (e : o.0.kind ≡ ClassRecord). inl (sym o.2 ∙ e)) (λ (e : o.0.kind ≡ SpillRecord). inr (sym o.2 ∙ e)) k)) (h.sorted a o.0 o.1);
     leads = λ a i b z z' s k mem t u c.
         ⊎_elim
         (λ (e : a ≡ r).

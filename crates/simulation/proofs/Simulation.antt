@@ -143,6 +143,10 @@ pub record PastA (a b : Run) (m : ℕ) : Type 0 where
 abbrev NamedSoon : Run → ℕ → Type 0
 NamedSoon r n = (a : ℕ) (x : Block) → StandsAt (r.memory n) a x → x.kind ≡ ClassRecord → (k c : ℕ) × (a < c) × IsNamedBy (r.memory k) a c × IsPrefix (seen r.labels r k) (seen r.labels r n)
 
+-- the run ends for want of arena, with the same entries before it
+abbrev FullSoon : Run → ℕ → Type 0
+FullSoon r n = (k : ℕ) × (r.end k ≡ Arena) × IsPrefix (seen r.labels r k) (seen r.labels r n)
+
 pub record PastB (a b : Run) (n : ℕ) : Type 0 where
   going : b.end n ≡ Going
   tidy : (p : Point) → visible b.labels (b.pass n) ≡ Some p → HasTidyReach (b.memory n) (b.roots n)
@@ -269,7 +273,7 @@ module _ (full : Bool) (a b : Run) (la : IsLawful a) (tells : (i j : ℕ) → i 
   -- and at a step of b
   record AtB (n : ℕ) : Type 0 where
     tidy : (p : Point) → visible b.labels (b.pass n) ≡ Some p → HasTidyReach (b.memory n) (b.roots n)
-    named : NamedSoon b n ⊎ (IsTrue full × ((k : ℕ) × (b.end k ≡ Arena)))
+    named : NamedSoon b n ⊎ (IsTrue full × FullSoon b n)
     told : (m : ℕ) × IsPrefix (b.out n) (a.out m)
     ends : b.end n ≢ Going → ((m : ℕ) × (a.end m ≡ b.end n) × (a.out m ≡ b.out n)) ⊎ (IsTrue full × (b.end n ≡ Arena))
     entered : (p : Point) → visible b.labels (b.pass n) ≡ Some p → (m : ℕ) × (visible b.labels (a.pass m) ≡ Some p) × (seen b.labels a m ≡ seen b.labels b n) × ReachesNoMore a m b n
@@ -325,12 +329,13 @@ module _ (full : Bool) (a b : Run) (la : IsLawful a) (tells : (i j : ℕ) → i 
   at_b_full : (k m n : ℕ) → Met a b R k m n → Fills full a b m n → (j : ℕ) → n ≤ j → AtB j
   at_b_full k m n h g j l =
       let same_a = seen_quiet b.labels a m g.to_a g.quiet_a g.to_a g.on_a (le_refl g.to_a) in
+      let same_b = seen_quiet b.labels b n g.to_b g.quiet_b g.to_b g.on_b (le_refl g.to_b) in
       ⊎_elim
       (λ (u : j < g.to_b).
       let le : j ≤ g.to_b = omega arith in
       record {
         tidy = λ p e. let f : Some p ≡ None = sym e ∙ g.quiet_b.unseen j l u in absurd (cc);
-        named = inr (g.may, (g.to_b, g.is_full));
+        named = inr (g.may, (g.to_b, g.is_full, prefix_of_eq (seen b.labels b g.to_b) (seen b.labels b j) (same_b ∙ sym (seen_quiet b.labels b n g.to_b g.quiet_b j l le))));
         ends = λ e. absurd (e (g.quiet_b.going j l u));
         told = (g.to_a, prefix_trans (b.out j) (b.out g.to_b) (a.out g.to_a) (out_grows b n g.to_b g.grows_b j g.to_b l le (le_refl g.to_b)) g.wrote);
         entered = λ p e. let f : Some p ≡ None = sym e ∙ g.quiet_b.unseen j l u in absurd (cc);
@@ -341,7 +346,7 @@ module _ (full : Bool) (a b : Run) (la : IsLawful a) (tells : (i j : ℕ) → i 
       let s = stays b.labels b lb g.to_b e j u in
       record {
         tidy = λ p v. absurd (no_pass b.labels b lb j (λ w. e (sym s.end ∙ w)) p v);
-        named = inr (g.may, (g.to_b, g.is_full));
+        named = inr (g.may, (g.to_b, g.is_full, prefix_of_eq (seen b.labels b g.to_b) (seen b.labels b j) (sym s.seen)));
         told = (g.to_a, subst (λ t. IsPrefix t (a.out g.to_a)) (sym s.out) g.wrote);
         ends = λ _. inr (g.may, s.end ∙ g.is_full);
         entered = λ p v. absurd (no_pass b.labels b lb j (λ w. e (sym s.end ∙ w)) p v);
@@ -390,7 +395,7 @@ module _ (full : Bool) (a b : Run) (la : IsLawful a) (tells : (i j : ℕ) → i 
     };
     tidy = record {
       reach = λ n. (at_b n).tidy;
-      named = λ n a' x t e. ⊎_elim (λ (h : NamedSoon b n). inl (h a' x t e)) (λ (h : IsTrue full × ((k : ℕ) × (b.end k ≡ Arena))). inr h) (at_b n).named;
+      named = λ n a' x t e. ⊎_elim (λ (h : NamedSoon b n). inl (h a' x t e)) (λ (h : IsTrue full × FullSoon b n). inr h) (at_b n).named;
     };
     follows = simulation_follows fewer;
   }

@@ -2,7 +2,7 @@
 use Rattle.std.proofs.Common.{◌≡◌, ℕ, ◌+◌, ◌≤◌, List, [], ◌∷◌, ◌++◌, map, inl, inr, refl, sym, ap, ◌∙◌, subst, arith, ⊎_elim}
 use Rattle.std.proofs.Common.{Option, Some, None, slice_get}
 use Rattle.smlc_base.specs.declared.point.Point.{Point}
-use Rattle.simulation.specs.Blocks.{Kind, Closure, Frame, Datum, ClassRecord, SpillRecord, Block, IsAmong, points_of, StandsAt, AreOfOneSort, IsCounted, IsLike, Embeds}
+use Rattle.simulation.specs.Blocks.{Kind, Closure, Frame, Datum, ClassRecord, SpillRecord, Inside, Block, IsAmong, points_of, StandsAt, AreOfOneSort, IsCounted, IsLike, Embeds}
 
 -- no element stands twice
 abbrev pub IsDistinct : {X : Type 0} → List X → Type 0
@@ -93,6 +93,7 @@ kind_keys a (Frame ps) = point_keys a ps
 kind_keys a Datum = record { address = a; point = None } ∷ []
 kind_keys a ClassRecord = []
 kind_keys a SpillRecord = []
+kind_keys a Inside = []
 
 abbrev pub block_keys : ℕ → Option Block → List Key
 block_keys a None = []
@@ -122,6 +123,7 @@ among_kind_keys a p (Frame ps) h = among_point_keys a p ps h
 among_kind_keys a p Datum h = absurd h
 among_kind_keys a p ClassRecord h = absurd h
 among_kind_keys a p SpillRecord h = absurd h
+among_kind_keys a p Inside h = absurd h
 
 among_all_keys : (memory : List Block) (bs : List ℕ) (a : ℕ) (y : Block) (k : Key) → IsAmong a bs → StandsAt memory a y → IsAmong k (kind_keys a y.kind) → IsAmong k (all_keys memory bs)
 among_all_keys memory [] a y k h s m = absurd h

@@ -2,13 +2,15 @@
 use Rattle.std.specs.Prelude.{◌≡◌, ℕ, List, [], ◌∷◌, ◌++◌, Some, slice_get, ◌⊎◌}
 use Rattle.smlc_base.specs.declared.point.Point.{Point}
 
--- What a block is. A frame has one point, and a frame of a handle has two: where it catches and where it is popped.
+-- What a block is. A frame has one point, and a frame of a handle has two: where it catches and where it is popped. A memory
+-- that has an address for each word has a block at the first word of each, and says at the others that they lie inside one.
 pub data Kind : Type 0 where
   Closure : (point : Point) → Kind
   Frame : (points : List Point) → Kind
   Datum : Kind
   ClassRecord : Kind
   SpillRecord : Kind
+  Inside : Kind
 
 -- a block: what it is, how long it is, and the addresses that its fields name
 pub record Block : Type 0 where
@@ -32,6 +34,7 @@ points_of (Frame ps) = ps
 points_of Datum = []
 points_of ClassRecord = []
 points_of SpillRecord = []
+points_of Inside = []
 
 abbrev pub StandsAt : List Block → ℕ → Block → Type 0
 StandsAt memory a block = slice_get memory a ≡ Some block
@@ -46,7 +49,7 @@ abbrev pub AreOfOneSort : Block → Block → Type 0
 AreOfOneSort x y =
     ((x.kind ≡ Datum) × (y.kind ≡ Datum)) ⊎ ((p : Point) × IsAmong p (points_of x.kind) × IsAmong p (points_of y.kind))
 
--- it is a datum, a closure or a frame, and no record of variables
+-- it is a datum, or a closure or frame of some point: what the maps between memories speak of
 abbrev pub IsCounted : Block → Type 0
 IsCounted x = AreOfOneSort x x
 

@@ -57,7 +57,7 @@ pub record IsTidy (full : Bool) (r : Run) : Type 0 where
   pub reach : (n : ℕ) (p : Point) → visible r.labels (r.pass n) ≡ Some p → HasTidyReach (r.memory n) (r.roots n)
   -- A class record that stands at a moment is named by a closure that is made after it, by a moment with no more entries
   -- before it. At the moment at which the record is made this says that no entry lies between them.
-  pub named : (n a : ℕ) (x : Block) → StandsAt (r.memory n) a x → x.kind ≡ ClassRecord → ((k c : ℕ) × (a < c) × IsNamedBy (r.memory k) a c × IsPrefix (seen r.labels r k) (seen r.labels r n)) ⊎ (IsTrue full × ((k : ℕ) × (r.end k ≡ Arena)))
+  pub named : (n a : ℕ) (x : Block) → StandsAt (r.memory n) a x → x.kind ≡ ClassRecord → ((k c : ℕ) × (a < c) × IsNamedBy (r.memory k) a c × IsPrefix (seen r.labels r k) (seen r.labels r n)) ⊎ (IsTrue full × ((k : ℕ) × (r.end k ≡ Arena) × IsPrefix (seen r.labels r k) (seen r.labels r n)))
 
 pub record IsKept (full : Bool) (a b : Run) : Type 0 where
   pub sound : IsSound b
