@@ -1,91 +1,166 @@
--- The form of simulation that most passes want: each step of a is answered by steps of b, or by none while a wait falls.
-use Rattle.std.proofs.Common.{◌≡◌, ℕ, ◌<◌, List, Option, Some, None, false, ◌⊎◌, inl, inr, refl, lt-suc_self, ⊎_elim}
+-- Forward simulation: each step of a is answered by steps of b, or by none while a wait falls.
+use Rattle.std.proofs.Common.{◌≡◌, ◌≢◌, ℕ, suc, ◌+◌, ◌<◌, ◌≤◌, List, Some, None, Bool, true, IsTrue, ◌⊎◌, inl, inr, refl, sym, ap, ◌∙◌, subst, arith, lt-suc_self, ⊎_elim}
 use Rattle.smlc_base.specs.declared.point.Point.{Point}
-use Rattle.simulation.specs.Runs.{visible}
-use Rattle.simulation.specs.Keeps.{HasTidyReach}
-use Rattle.simulation.specs.Machines.{Machine, IsLive, IsSteady}
+use Rattle.smlc_base.specs.declared.point.PointKind.TheVariants.{Eq}
+use Rattle.simulation.specs.Blocks.{Block, IsPrefix}
+use Rattle.simulation.specs.Runs.{Arena, is_label, times, visible}
+use Rattle.simulation.specs.Keeps.{HasTidyReach, IsSound, IsKept}
+use Rattle.simulation.specs.Machines.{Machine, state_at, run_from, IsLive, SteadyAt, IsSteady}
+use Rattle.simulation.proofs.Lists.{option_cases}
 use Rattle.simulation.proofs.Simulation.{AllNamed}
-use Rattle.simulation.proofs.Machines.{Walks, stay, walk, more_of, Unseen, Calm, Makes, Reaches, Ending, both_end, both_go, both_pass, IsMachineSimulation}
+use Rattle.simulation.proofs.Machines.{live_at, Walks, stay, walk, walks_on, more_of, Unseen, Calm, Makes, Reaches, Ending, StateMove, both_end, both_go, both_pass, b_fills, IsMachineSimulation, machines_keep}
 
--- b answers a quiet step of a
-pub record Answers {S T : Type 0} (B : Machine T) (labels : List Point) (R : ℕ → S → T → Type 0) (w : ℕ) (s' : S) (t : T) : Type 0 where
+-- ---- The answers
+
+-- b has ended as a has
+pub data Ends {S T : Type 0} (A : Machine S) (B : Machine T) (Through : T → Type 0) (s : S) (t : T) : Type 0 where
+  now : B.step t ≡ None → B.end t ≡ A.end s → Ends A B Through s t
+  later : (d : ℕ) (u : T) → Walks B Through d t u → Ending A B s u → Ends A B Through s t
+
+-- b goes on to a state that is related to a's next
+pub record Onward {T : Type 0} (B : Machine T) (Through : T → Type 0) (Then : ℕ → T → Type 0) (t : T) : Type 0 where
   pub steps : ℕ
   pub wait : ℕ
   pub to : T
-  pub walk : Walks B (Unseen B labels) steps t to
-  pub moves : (0 < steps) ⊎ (wait < w)
-  pub then : R wait s' to
+  pub walk : Walks B Through steps t to
+  pub then : Then wait to
 
--- b, which has come to t, enters where a passes this point
-pub record Enters {S T : Type 0} (A : Machine S) (B : Machine T) (labels : List Point) (R : ℕ → S → T → Type 0) (point : Point) (s s' : S) (t : T) : Type 0 where
-  pub next : T
-  pub passes : visible labels (B.pass t) ≡ Some point
-  pub step : B.step t ≡ Some next
+-- what is shown where both pass a point
+pub record Shows {S T : Type 0} (A : Machine S) (B : Machine T) (s : S) (t : T) : Type 0 where
   pub out : B.out t ≡ A.out s
   pub made : Makes A s B t
   pub named : AllNamed (B.memory t)
+
+pub record Enters {S T : Type 0} (A : Machine S) (B : Machine T) (s : S) (t : T) : Type 0 where
   pub reaches : Reaches A s B t
   pub tidy : HasTidyReach (B.memory t) (B.roots t)
+
+-- both do one step from here, with the same pass or none, and b goes on. What is shown at a pass is asked for where there is one.
+pub record Together {S T : Type 0} (A : Machine S) (B : Machine T) (labels : List Point) (Through : T → Type 0) (Then : ℕ → T → Type 0) (s : S) (t : T) : Type 0 where
+  pub next : T
+  pub passes : visible labels (B.pass t) ≡ visible labels (A.pass s)
+  pub step : B.step t ≡ Some next
+  pub steady : SteadyAt B t
+  pub enters : (p : Point) → visible labels (A.pass s) ≡ Some p → Enters A B s t
+  pub on : Onward B Through Then next
+
+-- b ends for want of arena
+pub record Full {S T : Type 0} (A : Machine S) (B : Machine T) (Through : T → Type 0) (s : S) (t : T) : Type 0 where
   pub steps : ℕ
-  pub wait : ℕ
   pub to : T
-  pub walk : Walks B (Unseen B labels) steps next to
-  pub then : R wait s' to
+  pub walk : Walks B Through steps t to
+  pub end : B.step to ≡ None
+  pub arena : B.end to ≡ Arena
+  pub wrote : IsPrefix (B.out to) (A.out s)
+  pub made : Makes A s B to
 
-pub record IsForward {S T : Type 0} (A : Machine S) (B : Machine T) (labels : List Point) (R : ℕ → S → T → Type 0) : Type 0 where
-  pub out : (w : ℕ) (s : S) (t : T) → R w s t → B.out t ≡ A.out s
-  pub made : (w : ℕ) (s : S) (t : T) → R w s t → Makes A s B t
-  pub named : (w : ℕ) (s : S) (t : T) → R w s t → AllNamed (B.memory t)
-  pub ended : (w : ℕ) (s : S) (t : T) → IsLive A s → R w s t → A.step s ≡ None → (d : ℕ) × (t' : T) × Walks B (Unseen B labels) d t t' × Ending A B s t'
-  pub quiet : (w : ℕ) (s s' : S) (t : T) → IsLive A s → R w s t → A.step s ≡ Some s' → Unseen A labels s → Answers B labels R w s' t
-  pub entered : (w : ℕ) (s s' : S) (t : T) (p : Point) → IsLive A s → R w s t → A.step s ≡ Some s' → visible labels (A.pass s) ≡ Some p → (d : ℕ) × (t' : T) × Walks B (Unseen B labels) d t t' × Enters A B labels R p s s' t'
+-- how b answers a step of a from s
+pub data Answer {S T : Type 0} (full : Bool) (A : Machine S) (B : Machine T) (labels : List Point) (Through : T → Type 0) (Then : ℕ → T → Type 0) (w : ℕ) (s : S) (t : T) : Type 0 where
+  -- nothing is passed, and b goes on, or the wait falls
+  silent : Unseen A labels s → (g : Onward B Through Then t) → (0 < g.steps) ⊎ (g.wait < w) → Answer full A B labels Through Then w s t
+  -- both go one step
+  together : Together A B labels Through Then s t → Answer full A B labels Through Then w s t
+  -- b comes first to a state of its own, from which both go one step
+  after : (d : ℕ) (u : T) → Walks B Through d t u → Shows A B s u → Together A B labels Through Then s u → Answer full A B labels Through Then w s t
+  fills : IsTrue full → Full A B Through s t → Answer full A B labels Through Then w s t
 
-pub option_cases : {X : Type 0} (o : Option X) → (o ≡ None) ⊎ ((x : X) × (o ≡ Some x))
-option_cases None = inl refl
-option_cases (Some x) = inr (x, refl)
+-- Through is what holds of the states that b walks through alone: they pass nothing, and a step takes nothing back.
+pub record IsForward {S T : Type 0} (full : Bool) (A : Machine S) (B : Machine T) (labels : List Point) (Known : S → Type 0) (Through : T → Type 0) (R : ℕ → S → T → Type 0) : Type 0 where
+  pub calm : (t : T) → Through t → Calm B labels t
+  pub shows : (w : ℕ) (s : S) (t : T) → Known s → R w s t → Shows A B s t
+  pub ended : (w : ℕ) (s : S) (t : T) → Known s → R w s t → A.step s ≡ None → Ends A B Through s t
+  pub step : (w : ℕ) (s s' : S) (t : T) → Known s → R w s t → A.step s ≡ Some s' → Answer full A B labels Through (λ v u. R v s' u) w s t
 
-pub forward_simulates : {S T : Type 0} (A : Machine S) (B : Machine T) (labels : List Point) (R : ℕ → S → T → Type 0) → IsSteady B → IsForward A B labels R → IsMachineSimulation false A B labels R
-forward_simulates {S} {T} A B labels R steady f = record {
-  out = f.out;
-  made = f.made;
-  named = f.named;
-  move = λ w s t v r. ⊎_elim
-      (λ (e : A.step s ≡ None). let h = f.ended w s t v r e in both_end (record { c = 0; d = h.0; to_a = s; to_b = h.1; walk_a = stay s; walk_b = calm h.0 t h.1 h.2 }) h.3)
-      (λ (e : (s' : S) × (A.step s ≡ Some s')). ⊎_elim
-      (λ (u : visible labels (A.pass s) ≡ None).
-      let g = f.quiet w s e.0 t v r e.1 u in
+-- ---- The theorem
+
+module _ {S T : Type 0} (full : Bool) (A : Machine S) (B : Machine T) (labels : List Point) (Known : S → Type 0) (Through : T → Type 0) (R : ℕ → S → T → Type 0) (f : IsForward full A B labels Known Through R) where
+  calm_walk : (c : ℕ) (t u : T) → Walks B Through c t u → Walks B (Calm B labels) c t u
+  calm_walk c t u w = more_of B Through (Calm B labels) f.calm c t u w
+
+  ends_move : (w : ℕ) (s : S) (t : T) → A.step s ≡ None → Shows A B s t → Ends A B Through s t → StateMove full A B labels R w s t
+  ends_move w s t e h (now g k) =
+      both_end (record { c = 0; d = 0; to_a = s; to_b = t; walk_a = stay s; walk_b = stay t })
+      (record { end_a = e; end_b = g; same = k; out = h.out; made = h.made; named = h.named })
+  ends_move w s t e h (later d u v k) =
+      both_end (record { c = 0; d = d; to_a = s; to_b = u; walk_a = stay s; walk_b = calm_walk d t u v }) k
+
+  together_move : (w d : ℕ) (s s' : S) (t u : T) → A.step s ≡ Some s' → Walks B Through d t u → Shows A B s u → Together A B labels Through (λ v u. R v s' u) s u → StateMove full A B labels R w s t
+  together_move w d s s' t u e v h g = let o = g.on in ⊎_elim
+      (λ (n : visible labels (A.pass s) ≡ None).
+      both_go (record {
+        c = 1;
+        d = d + suc o.steps;
+        wait = o.wait;
+        to_a = s';
+        to_b = o.to;
+        walk_a = walk 0 s s' s' e (n, refl) (stay s');
+        walk_b = walks_on B (Calm B labels) d (suc o.steps) t u o.to (calm_walk d t u v) (walk o.steps u g.next o.to g.step (g.passes ∙ n, g.steady) (calm_walk o.steps g.next o.to o.walk));
+        then = o.then;
+      }) (inl (omega arith, omega arith)))
+      (λ (n : (p : Point) × (visible labels (A.pass s) ≡ Some p)).
+      let i = g.enters n.0 n.1 in
+      both_pass (record { c = 0; d = d; to_a = s; to_b = u; walk_a = stay s; walk_b = calm_walk d t u v }) (record {
+        point = n.0;
+        next_a = s';
+        next_b = g.next;
+        passes_a = n.1;
+        passes_b = g.passes ∙ n.1;
+        step_a = e;
+        step_b = g.step;
+        steady_b = g.steady;
+        out = h.out;
+        made = h.made;
+        named = h.named;
+        reaches = i.reaches;
+        tidy = i.tidy;
+        on = record { c = 0; d = o.steps; wait = o.wait; to_a = s'; to_b = o.to; walk_a = stay s'; walk_b = calm_walk o.steps g.next o.to o.walk; then = o.then };
+      }))
+      (option_cases (visible labels (A.pass s)))
+
+  step_move : (w : ℕ) (s s' : S) (t : T) → A.step s ≡ Some s' → Shows A B s t → Answer full A B labels Through (λ v u. R v s' u) w s t → StateMove full A B labels R w s t
+  step_move w s s' t e h (silent n g m) =
       both_go (record {
         c = 1;
         d = g.steps;
         wait = g.wait;
-        to_a = e.0;
+        to_a = s';
         to_b = g.to;
-        walk_a = walk 0 s e.0 e.0 e.1 (u, refl) (stay e.0);
-        walk_b = calm g.steps t g.to g.walk;
+        walk_a = walk 0 s s' s' e (n, refl) (stay s');
+        walk_b = calm_walk g.steps t g.to g.walk;
         then = g.then;
-      }) (⊎_elim (λ (q : 0 < g.steps). inl (lt-suc_self 0, q)) (λ (q : g.wait < w). inr q) g.moves))
-      (λ (u : (p : Point) × (visible labels (A.pass s) ≡ Some p)).
-      let h = f.entered w s e.0 t u.0 v r e.1 u.1 in
-      let g = h.3 in
-      both_pass (record { c = 0; d = h.0; to_a = s; to_b = h.1; walk_a = stay s; walk_b = calm h.0 t h.1 h.2 }) (record {
-        point = u.0;
-        next_a = e.0;
-        next_b = g.next;
-        passes_a = u.1;
-        passes_b = g.passes;
-        step_a = e.1;
-        step_b = g.step;
-        steady_b = steady h.1;
-        out = g.out;
+      }) (⊎_elim (λ (q : 0 < g.steps). inl (lt-suc_self 0, q)) (λ (q : g.wait < w). inr q) m)
+  step_move w s s' t e h (together g) = together_move w 0 s s' t t e (stay t) h g
+  step_move w s s' t e h (after d u v k g) = together_move w d s s' t u e v k g
+  step_move w s s' t e h (fills may g) =
+      b_fills may (record {
+        c = 0;
+        d = g.steps;
+        to_a = s;
+        to_b = g.to;
+        walk_a = stay s;
+        walk_b = calm_walk g.steps t g.to g.walk;
+        end_b = g.end;
+        arena = g.arena;
+        wrote = g.wrote;
         made = g.made;
-        named = g.named;
-        reaches = g.reaches;
-        tidy = g.tidy;
-        on = record { c = 0; d = g.steps; wait = g.wait; to_a = e.0; to_b = g.to; walk_a = stay e.0; walk_b = calm g.steps g.next g.to g.walk; then = g.then };
-      }))
-      (option_cases (visible labels (A.pass s))))
-      (option_cases (A.step s));
-}
-  where
-    calm : (c : ℕ) (t u : T) → Walks B (Unseen B labels) c t u → Walks B (Calm B labels) c t u
-    calm c t u w = more_of B (Unseen B labels) (Calm B labels) (λ x p. (p, steady x)) c t u w
+      })
+
+  pub forward_simulates : IsMachineSimulation full A B labels Known R
+  forward_simulates = record {
+    out = λ w s t k r. (f.shows w s t k r).out;
+    made = λ w s t k r. (f.shows w s t k r).made;
+    named = λ w s t k r. (f.shows w s t k r).named;
+    move = λ w s t k r. ⊎_elim
+        (λ (e : A.step s ≡ None). ends_move w s t e (f.shows w s t k r) (f.ended w s t k r e))
+        (λ (e : (s' : S) × (A.step s ≡ Some s')). step_move w s e.0 t e.1 (f.shows w s t k r) (f.step w s e.0 t k r e.1))
+        (option_cases (A.step s));
+  }
+
+-- what is known of each state of a sound run
+pub live_known : {S : Type 0} (A : Machine S) (labels : List Point) (s : S) → IsSound (run_from A labels s) → (n : ℕ) → IsLive A (state_at A s n)
+live_known A labels s sound n = live_at A s (λ m. sound.never_stuck m) n
+
+-- The forward simulation theorem: from related starts b keeps a.
+pub forward_keeps : {S T : Type 0} (full : Bool) (A : Machine S) (B : Machine T) (la lb : List Point) (s : S) (t : T) (Known : S → Type 0) (Through : T → Type 0) (R : ℕ → S → T → Type 0) → (IsSound (run_from A la s) → (n : ℕ) → Known (state_at A s n)) → IsForward full A B lb Known Through R → IsSteady A → ((p : Point) → is_label lb p ≡ true → is_label la p ≡ true) → ((p : Point) → p.kind ≢ Eq → times p lb ≤ 1) → (w : ℕ) → R w s t → IsSound (run_from A la s) → IsKept full (run_from A la s) (run_from B lb t)
+forward_keeps full A B la lb s t Known Through R known f steady fewer once w start sound =
+    machines_keep full A B la lb s t Known (known sound) R (forward_simulates full A B lb Known Through R f) steady fewer once w start sound

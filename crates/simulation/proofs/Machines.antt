@@ -8,6 +8,7 @@ use Rattle.simulation.specs.Runs.{Run, End, Going, Normal, Uncaught, Arena, Stuc
 use Rattle.simulation.specs.Keeps.{HasTidyReach, IsSound, IsKept}
 use Rattle.simulation.specs.Machines.{Machine, next_of, state_at, end_of, pass_of, run_from, IsLive, SteadyAt, IsSteady}
 use Rattle.simulation.proofs.Blocks.{prefix_refl, prefix_trans}
+use Rattle.simulation.proofs.Lists.{option_cases}
 use Rattle.simulation.proofs.Simulation.{from_on, IsQuiet, AllNamed, Move, ends, goes, passes, fills, IsSimulation, simulation_keeps}
 
 -- ---- The run of a machine is lawful
@@ -15,10 +16,6 @@ use Rattle.simulation.proofs.Simulation.{from_on, IsQuiet, AllNamed, Move, ends,
 end_none : {S : Type 0} (o : Option S) (e : End) → end_of o e ≢ Going → o ≡ None
 end_none None e h = refl
 end_none (Some t) e h = absurd (h refl)
-
-step_cases : {S : Type 0} (o : Option S) → (o ≡ None) ⊎ ((t : S) × (o ≡ Some t))
-step_cases None = inl refl
-step_cases (Some t) = inr (t, refl)
 
 module _ {S : Type 0} (M : Machine S) (labels : List Point) (s : S) where
   stay_at : (n : ℕ) → M.step (state_at M s n) ≡ None → state_at M s (suc n) ≡ state_at M s n
@@ -42,7 +39,7 @@ module _ {S : Type 0} (M : Machine S) (labels : List Point) (s : S) where
       ⊎_elim
       (λ (e : M.step (state_at M s n) ≡ None). subst (λ t. IsPrefix (M.out (state_at M s n)) (M.out t)) (sym (stay_at n e)) (prefix_refl (M.out (state_at M s n))))
       (λ (h : (t : S) × (M.step (state_at M s n) ≡ Some t)). subst (λ t. IsPrefix (M.out (state_at M s n)) (M.out t)) (sym (go_at n h.0 h.1)) (steady (state_at M s n) h.0 h.1).0)
-      (step_cases (M.step (state_at M s n)))
+      (option_cases (M.step (state_at M s n)))
 
   pub run_tells : IsSteady M → (i j : ℕ) → i ≤ j → IsPrefix (M.out (state_at M s i)) (M.out (state_at M s j))
   run_tells steady i =
@@ -57,6 +54,15 @@ state-after M s m (suc n) =
 pub live_at : {S : Type 0} (M : Machine S) (s : S) → IsLive M s → (m : ℕ) → IsLive M (state_at M s m)
 live_at M s live m n e =
     live (m + n) (ap (λ t. end_of (M.step t) (M.end t)) (sym (state-after M s m n)) ∙ e)
+
+-- where a run goes on from its first step
+pub state_later : {S : Type 0} (M : Machine S) (s t : S) → M.step s ≡ Some t → (n : ℕ) → state_at M t n ≡ state_at M s (suc n)
+state_later M s t e zero = sym (ap (next_of s) e)
+state_later M s t e (suc n) = ap (λ u. next_of u (M.step u)) (state_later M s t e n)
+
+-- a live state without a step has ended
+pub live_ends : {S : Type 0} (M : Machine S) (s : S) → IsLive M s → M.step s ≡ None → M.end s ≡ Stuck → ⊥
+live_ends {S} M s live e d = live 0 (ap (λ o. end_of o (M.end s)) e ∙ ap (λ x. end_of {S = S} None x) d)
 
 -- ---- Walks
 
@@ -119,6 +125,17 @@ growing_of M labels Q s c n u h r = record {
 pub more_of : {S : Type 0} (M : Machine S) (P Q : S → Type 0) → ((x : S) → P x → Q x) → (c : ℕ) (s t : S) → Walks M P c s t → Walks M Q c s t
 more_of M P Q h c s t (stay u) = stay u
 more_of M P Q h c s t (walk c' s' u t' e p w) = walk c' s' u t' e (h s' p) (more_of M P Q h c' u t' w)
+
+-- one walk after another
+pub walks_on : {S : Type 0} (M : Machine S) (Q : S → Type 0) (c d : ℕ) (s t u : S) → Walks M Q c s t → Walks M Q d t u → Walks M Q (c + d) s u
+walks_on M Q c d s t u (stay x) w = subst (λ n. Walks M Q n s u) (let e : d ≡ 0 + d = omega arith in e) w
+walks_on M Q c d s t u (walk c' s' x t' e q v) w =
+    subst (λ n. Walks M Q n s u) (let e : suc (c' + d) ≡ suc c' + d = omega arith in e) (walk (c' + d) s' x u e q (walks_on M Q c' d x t' u v w))
+
+-- what each step keeps is kept by a walk
+pub walks_keep : {S : Type 0} (M : Machine S) (P Q : S → Type 0) → ((s t : S) → P s → M.step s ≡ Some t → P t) → (c : ℕ) (s t : S) → Walks M Q c s t → P s → P t
+walks_keep M P Q on c s t (stay u) h = h
+walks_keep M P Q on c s u (walk c' s' t u' e q w) h = walks_keep M P Q on c' t u w (on s t h e)
 
 -- ---- Simulations of machines
 
@@ -207,12 +224,13 @@ pub data StateMove {S T : Type 0} (full : Bool) (A : Machine S) (B : Machine T) 
   both_pass : (h : Walked A B labels s t) → Passing A B labels R h.to_a h.to_b → StateMove full A B labels R w s t
   b_fills : IsTrue full → Filling A B labels s t → StateMove full A B labels R w s t
 
--- R w s t relates states of a and b; w says how often one of them may yet wait. No state of a is stuck.
-pub record IsMachineSimulation {S T : Type 0} (full : Bool) (A : Machine S) (B : Machine T) (labels : List Point) (R : ℕ → S → T → Type 0) : Type 0 where
-  pub out : (w : ℕ) (s : S) (t : T) → R w s t → B.out t ≡ A.out s
-  pub made : (w : ℕ) (s : S) (t : T) → R w s t → Makes A s B t
-  pub named : (w : ℕ) (s : S) (t : T) → R w s t → AllNamed (B.memory t)
-  pub move : (w : ℕ) (s : S) (t : T) → IsLive A s → R w s t → StateMove full A B labels R w s t
+-- R w s t relates states of a and b; w says how often one of them may yet wait. Known is what holds of each state that a
+-- comes to: that it isn't stuck, say, and that its records are in order.
+pub record IsMachineSimulation {S T : Type 0} (full : Bool) (A : Machine S) (B : Machine T) (labels : List Point) (Known : S → Type 0) (R : ℕ → S → T → Type 0) : Type 0 where
+  pub out : (w : ℕ) (s : S) (t : T) → Known s → R w s t → B.out t ≡ A.out s
+  pub made : (w : ℕ) (s : S) (t : T) → Known s → R w s t → Makes A s B t
+  pub named : (w : ℕ) (s : S) (t : T) → Known s → R w s t → AllNamed (B.memory t)
+  pub move : (w : ℕ) (s : S) (t : T) → Known s → R w s t → StateMove full A B labels R w s t
 
 -- an end is no going on
 end_of_none : {S : Type 0} (o : Option S) (e : End) → o ≡ None → end_of o e ≢ Going
@@ -223,7 +241,7 @@ end_of_none None Arena h f = cc
 end_of_none None Stuck h f = cc
 end_of_none (Some t) e h f = cc
 
-module _ {S T : Type 0} (full : Bool) (A : Machine S) (B : Machine T) (la lb : List Point) (s₀ : S) (t₀ : T) (R : ℕ → S → T → Type 0) (sim : IsMachineSimulation full A B lb R) where
+module _ {S T : Type 0} (full : Bool) (A : Machine S) (B : Machine T) (la lb : List Point) (s₀ : S) (t₀ : T) (Known : S → Type 0) (known : (n : ℕ) → Known (state_at A s₀ n)) (R : ℕ → S → T → Type 0) (sim : IsMachineSimulation full A B lb Known R) where
   abbrev a_at : ℕ → S
   a_at m = state_at A s₀ m
 
@@ -346,23 +364,23 @@ module _ {S T : Type 0} (full : Bool) (A : Machine S) (B : Machine T) (la lb : L
       none_same Arena = refl
       none_same Stuck = refl
 
-  stage_simulates : IsLive A s₀ → (w : ℕ) → R w s₀ t₀ → IsSimulation full run_a run_b Stage
-  stage_simulates live w start = record {
+  stage_simulates : (w : ℕ) → R w s₀ t₀ → IsSimulation full run_a run_b Stage
+  stage_simulates w start = record {
     start = (suc (suc w), main w refl start);
-    out = λ k m n. elim [ main v e r ↦ sim.out v (a_at m) (b_at n) r | ready e p ↦ p.out | final e ↦ e.out ];
-    made = λ k m n. elim [ main v e r ↦ sim.made v (a_at m) (b_at n) r | ready e p ↦ p.made | final e ↦ e.made ];
-    named = λ k m n. elim [ main v e r ↦ sim.named v (a_at m) (b_at n) r | ready e p ↦ p.named | final e ↦ e.named ];
+    out = λ k m n. elim [ main v e r ↦ sim.out v (a_at m) (b_at n) (known m) r | ready e p ↦ p.out | final e ↦ e.out ];
+    made = λ k m n. elim [ main v e r ↦ sim.made v (a_at m) (b_at n) (known m) r | ready e p ↦ p.made | final e ↦ e.made ];
+    named = λ k m n. elim [ main v e r ↦ sim.named v (a_at m) (b_at n) (known m) r | ready e p ↦ p.named | final e ↦ e.named ];
     move = λ k m n. elim [
-      | main v e r ↦ stage_main k m n v e (sim.move v (a_at m) (b_at n) (live_at A s₀ live m) r)
+      | main v e r ↦ stage_main k m n v e (sim.move v (a_at m) (b_at n) (known m) r)
       | ready e p ↦ stage_passes k m n p
       | final e ↦ stage_ends k m n e
     ];
   }
 
-  -- The lever for machines: a simulation from the starts gives all that a pass keeps.
+  -- The general simulation theorem: a simulation from the starts gives all that a pass keeps.
   pub machines_keep : IsSteady A → ((p : Point) → is_label lb p ≡ true → is_label la p ≡ true) → ((p : Point) → p.kind ≢ Eq → times p lb ≤ 1) → (w : ℕ) → R w s₀ t₀ → IsSound (run_from A la s₀) → IsKept full (run_from A la s₀) (run_from B lb t₀)
   machines_keep steady_a fewer once w start sound =
-      simulation_keeps full run_a run_b (run_lawful A la s₀) (run_tells A la s₀ steady_a) (run_lawful B lb t₀) Stage (stage_simulates (λ n. sound.never_stuck n) w start) fewer once sound
+      simulation_keeps full run_a run_b (run_lawful A la s₀) (run_tells A la s₀ steady_a) (run_lawful B lb t₀) Stage (stage_simulates w start) fewer once sound
 
 -- ---- What each state of a run keeps
 
@@ -372,7 +390,7 @@ state_by {S} M Inv on s h (suc n) =
     ⊎_elim
     (λ (e : M.step (state_at M s n) ≡ None). subst Inv (sym (ap (next_of (state_at M s n)) e)) (state_by M Inv on s h n))
     (λ (e : (t : S) × (M.step (state_at M s n) ≡ Some t)). subst Inv (sym (ap (next_of (state_at M s n)) e.1)) (on (state_at M s n) e.0 (state_by M Inv on s h n) e.1))
-    (step_cases (M.step (state_at M s n)))
+    (option_cases (M.step (state_at M s n)))
 
 -- what each step keeps, and no stuck state has, keeps a run live
 pub live_by : {S : Type 0} (M : Machine S) (Inv : S → Type 0) → ((s t : S) → Inv s → M.step s ≡ Some t → Inv t) → ((s : S) → Inv s → end_of (M.step s) (M.end s) ≢ Stuck) → (s : S) → Inv s → IsLive M s

@@ -6,6 +6,7 @@ use Rattle.smlc_base.specs.declared.point.PointKind.{PointKind}
 use Rattle.smlc_base.specs.declared.point.PointKind.TheVariants.{Fn, Ret, Caught, Popped, Eq}
 use Rattle.simulation.specs.Runs.{Run, is_same_kind, is_point, is_label, times, visible, listed, seen, one_pass, passes_before}
 use Rattle.simulation.specs.Keeps.{ReachesNoMore, Follows, IsNthPass}
+use Rattle.simulation.proofs.Lists.{times-append}
 use Rattle.simulation.proofs.Seen.{visible_some, visible_of}
 
 pub same_kind_eq : (r s : PointKind) → is_same_kind r s ≡ true → r ≡ s
@@ -36,14 +37,6 @@ one_times labels p q false false e f l = refl
 listed_times : (labels : List Point) (p : Point) (o : Option Point) → is_label labels p ≡ true → times p (listed (visible labels o)) ≡ one_pass p o
 listed_times labels p None l = refl
 listed_times labels p (Some q) l = one_times labels p q (is_label labels q) (is_point q p) refl refl l
-
-times_cond : (b : Bool) (n x y : ℕ) → n ≡ x + y → cond b (suc n) n ≡ cond b (suc x) x + y
-times_cond true n x y e = omega arith
-times_cond false n x y e = e
-
-times-append : (p : Point) (xs ys : List Point) → times p (xs ++ ys) ≡ times p xs + times p ys
-times-append p [] ys = omega arith
-times-append p (x ∷ xs) ys = times_cond (is_point x p) (times p (xs ++ ys)) (times p xs) (times p ys) (times-append p xs ys)
 
 -- of a point that is seen, each pass is seen
 pub times-seen : (labels : List Point) (p : Point) (r : Run) → is_label labels p ≡ true → (n : ℕ) → times p (seen labels r n) ≡ passes_before p r n

@@ -3,6 +3,7 @@ use Rattle.std.proofs.Common.{◌≡◌, ℕ, ◌+◌, ◌≤◌, List, [], ◌�
 use Rattle.std.proofs.Common.{Option, Some, None, slice_get}
 use Rattle.smlc_base.specs.declared.point.Point.{Point}
 use Rattle.simulation.specs.Blocks.{Kind, Closure, Frame, Datum, ClassRecord, SpillRecord, Inside, Block, IsAmong, points_of, StandsAt, AreOfOneSort, IsCounted, IsLike, Embeds}
+use Rattle.simulation.proofs.Lists.{among_left, among_right, among_map}
 
 -- no element stands twice
 abbrev pub IsDistinct : {X : Type 0} → List X → Type 0
@@ -44,11 +45,6 @@ weight_contained w (x ∷ xs) ys d h =
     let r = without w x ys (h x (inl refl)) in
     let i = weight_contained w xs r.0 d.1 (λ y m. r.1.others y (h y (inr m)) (λ e. d.0 (subst (λ t. IsAmong t xs) e m))) in
     omega (arith, r.1.sum, i)
-
-among_map : {X Y : Type 0} (f : X → Y) (y : Y) (xs : List X) → IsAmong y (map f xs) → (x : X) × IsAmong x xs × (y ≡ f x)
-among_map f y [] h = absurd h
-among_map f y (x ∷ xs) (inl e) = (x, inl refl, e)
-among_map f y (x ∷ xs) (inr h) = let i = among_map f y xs h in (i.0, inr i.1, i.2)
 
 distinct_map : {X Y : Type 0} (f : X → Y) (xs : List X) → IsDistinct xs → ((x y : X) → IsAmong x xs → IsAmong y xs → f x ≡ f y → x ≡ y) → IsDistinct (map f xs)
 distinct_map f [] d h = tt
@@ -103,15 +99,6 @@ abbrev pub all_keys : List Block → List ℕ → List Key
 all_keys memory [] = []
 all_keys memory (a ∷ bs) = block_keys a (slice_get memory a) ++ all_keys memory bs
 
-among_append_left : {X : Type 0} (x : X) (xs ys : List X) → IsAmong x xs → IsAmong x (xs ++ ys)
-among_append_left x [] ys h = absurd h
-among_append_left x (z ∷ xs) ys (inl e) = inl e
-among_append_left x (z ∷ xs) ys (inr h) = inr (among_append_left x xs ys h)
-
-among_append_right : {X : Type 0} (x : X) (xs ys : List X) → IsAmong x ys → IsAmong x (xs ++ ys)
-among_append_right x [] ys h = h
-among_append_right x (z ∷ xs) ys h = inr (among_append_right x xs ys h)
-
 among_point_keys : (a : ℕ) (p : Point) (ps : List Point) → IsAmong p ps → IsAmong (record { address = a; point = Some p }) (point_keys a ps)
 among_point_keys a p [] h = absurd h
 among_point_keys a p (q ∷ ps) (inl e) = inl (ap (λ t. let k : Key = record { address = a; point = Some t } in k) e)
@@ -128,10 +115,10 @@ among_kind_keys a p Inside h = absurd h
 among_all_keys : (memory : List Block) (bs : List ℕ) (a : ℕ) (y : Block) (k : Key) → IsAmong a bs → StandsAt memory a y → IsAmong k (kind_keys a y.kind) → IsAmong k (all_keys memory bs)
 among_all_keys memory [] a y k h s m = absurd h
 among_all_keys memory (b ∷ bs) a y k (inl e) s m =
-    among_append_left k (block_keys b (slice_get memory b)) (all_keys memory bs)
+    among_left k (block_keys b (slice_get memory b)) (all_keys memory bs)
     (subst (λ t. IsAmong k (block_keys t (slice_get memory t))) e (subst (λ t. IsAmong k (block_keys a t)) (sym s) m))
 among_all_keys memory (b ∷ bs) a y k (inr h) s m =
-    among_append_right k (block_keys b (slice_get memory b)) (all_keys memory bs) (among_all_keys memory bs a y k h s m)
+    among_right k (block_keys b (slice_get memory b)) (all_keys memory bs) (among_all_keys memory bs a y k h s m)
 
 some_first : (ps : List Point) (p : Point) → IsAmong p ps → (q : Point) × (first_point ps ≡ Some q) × IsAmong q ps
 some_first [] p h = absurd h
