@@ -4,10 +4,9 @@ use Rattle.smlc_base.specs.declared.point.Point.{Point}
 use Rattle.smlc_base.specs.declared.point.PointKind.TheVariants.{Eq}
 use Rattle.simulation.specs.Blocks.{Block, IsPrefix}
 use Rattle.simulation.specs.Runs.{Arena, is_label, times, visible}
-use Rattle.simulation.specs.Keeps.{HasTidyReach, IsSound, IsKept}
+use Rattle.simulation.specs.Keeps.{AllNamed, HasTidyReach, IsSound, IsKept}
 use Rattle.simulation.specs.Machines.{Machine, state_at, run_from, IsLive, SteadyAt, IsSteady}
 use Rattle.simulation.proofs.Lists.{option_cases}
-use Rattle.simulation.proofs.Simulation.{AllNamed}
 use Rattle.simulation.proofs.Machines.{live_at, Walks, stay, walk, walks_on, more_of, Unseen, Calm, Makes, Reaches, Ending, StateMove, both_end, both_go, both_pass, b_fills, IsMachineSimulation, machines_keep}
 
 -- ---- The answers

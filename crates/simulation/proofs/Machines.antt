@@ -5,11 +5,11 @@ use Rattle.smlc_base.specs.declared.point.Point.{Point}
 use Rattle.smlc_base.specs.declared.point.PointKind.TheVariants.{Eq}
 use Rattle.simulation.specs.Blocks.{IsPrefix, Reach, Embeds, Grows}
 use Rattle.simulation.specs.Runs.{Run, End, Going, Normal, Uncaught, Arena, Stuck, is_label, times, visible, IsLawful, IsGrowing}
-use Rattle.simulation.specs.Keeps.{HasTidyReach, IsSound, IsKept}
+use Rattle.simulation.specs.Keeps.{AllNamed, HasTidyReach, IsSound, IsKept}
 use Rattle.simulation.specs.Machines.{Machine, next_of, state_at, end_of, pass_of, run_from, IsLive, SteadyAt, IsSteady}
 use Rattle.simulation.proofs.Blocks.{prefix_refl, prefix_trans}
 use Rattle.simulation.proofs.Lists.{option_cases}
-use Rattle.simulation.proofs.Simulation.{from_on, IsQuiet, AllNamed, Move, ends, goes, passes, fills, IsSimulation, simulation_keeps}
+use Rattle.simulation.proofs.Simulation.{from_on, IsQuiet, Move, ends, goes, passes, fills, IsSimulation, simulation_keeps}
 
 -- ---- The run of a machine is lawful
 

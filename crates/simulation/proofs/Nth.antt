@@ -1,5 +1,7 @@
 -- The same passes in the same order are the same number of passes of each point.
-use Rattle.std.proofs.Common.{◌≡◌, ℕ, zero, suc, ◌+◌, List, [], ◌∷◌, ◌++◌, Option, Some, None, Bool, true, false, cond, ◌&&◌, ◌==◌, refl, sym, ap, ap₂, ◌∙◌, subst, arith, eqb-true}
+use Rattle.std.proofs.Common.{◌≡◌, ℕ, zero, suc, ◌+◌, List, [], ◌∷◌, ◌++◌, Option, Some, None, Bool, true, false, cond, ◌&&◌, ◌==◌, refl, sym, ap, ap₂, ◌∙◌, subst, arith, eqb-true, eq-eqb, ◌<◌, ◌≤◌, le_refl, ⊎_elim}
+use Rattle.std.proofs.lemmas.Bool.{cases_lt}
+use Rattle.simulation.proofs.Simulation.{from_on}
 use Rattle.std.proofs.Common.{inl, inr}
 use Rattle.smlc_base.specs.declared.point.Point.{Point}
 use Rattle.smlc_base.specs.declared.point.PointKind.{PointKind}
@@ -59,3 +61,39 @@ nth_pass a b f p l i m h =
       | inl e ↦ (e.0, record { passes = visible_some b.labels (b.pass e.0) p e.1; after = sym (times-seen b.labels p b l e.0) ∙ ap (times p) e.2 ∙ times-seen b.labels p a l m ∙ h.after })
       | inr e ↦ absurd (let u = e.0 in cc)
     ]
+
+-- ---- The i-th pass is one step
+
+point_is_one : (p : Point) → is_point p p ≡ true
+point_is_one p = let e : (p.node == p.node) ≡ true = eq-eqb p.node p.node refl in ap (λ b. b && is_same_kind p.kind p.kind) e ∙ same_kind_one p.kind
+  where
+    same_kind_one : (k : PointKind) → is_same_kind k k ≡ true
+    same_kind_one Fn = refl
+    same_kind_one Ret = refl
+    same_kind_one Caught = refl
+    same_kind_one Popped = refl
+    same_kind_one Eq = refl
+
+passes_grow : (p : Point) (r : Run) (m n : ℕ) → m ≤ n → passes_before p r m ≤ passes_before p r n
+passes_grow p r m n =
+    from_on (λ n. passes_before p r m ≤ passes_before p r n) m (le_refl (passes_before p r m)) (λ n l h. omega arith) n
+
+-- a pass counts
+pass_counts : (p : Point) (r : Run) (m : ℕ) → r.pass m ≡ Some p → passes_before p r (suc m) ≡ suc (passes_before p r m)
+pass_counts p r m e =
+    let one : one_pass p (r.pass m) ≡ 1 = ap (one_pass p) e ∙ ap (λ b. cond b 1 0) (point_is_one p) in
+    omega arith
+
+not_before : (p : Point) (r : Run) (i m n : ℕ) → IsNthPass r p i m → IsNthPass r p i n → m < n → ⊥
+not_before p r i m n h k l =
+    let a = passes_grow p r (suc m) n l in
+    let b = pass_counts p r m h.passes in
+    let c = h.after in
+    let d = k.after in
+    absurd (omega arith)
+
+pub nth_one : (p : Point) (r : Run) (i m n : ℕ) → IsNthPass r p i m → IsNthPass r p i n → m ≡ n
+nth_one p r i m n h k =
+    ⊎_elim (λ (l : m < n). absurd (not_before p r i m n h k l))
+    (λ (l : n ≤ m). ⊎_elim (λ (g : n < m). absurd (not_before p r i n m k h g)) (λ (g : m ≤ n). omega arith) (cases_lt n m))
+    (cases_lt m n)

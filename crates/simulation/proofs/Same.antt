@@ -3,11 +3,10 @@ use Rattle.std.proofs.Common.{◌≡◌, ℕ, List, Option, Some, None, Bool, tr
 use Rattle.smlc_base.specs.declared.point.Point.{Point}
 use Rattle.simulation.specs.Blocks.{Block, Reach, Embeds}
 use Rattle.simulation.specs.Runs.{is_label, visible}
-use Rattle.simulation.specs.Keeps.{HasTidyReach, IsTidy}
+use Rattle.simulation.specs.Keeps.{AllNamed, HasTidyReach, IsTidy}
 use Rattle.simulation.specs.Machines.{Machine, state_at, pass_of, run_from}
 use Rattle.simulation.proofs.Blocks.{embeds_id}
 use Rattle.simulation.proofs.Seen.{visible_some, visible_label, visible_of}
-use Rattle.simulation.proofs.Simulation.{AllNamed}
 use Rattle.simulation.proofs.Machines.{Makes, Reaches, Ending}
 use Rattle.simulation.proofs.Forward.{Shows, Enters}
 

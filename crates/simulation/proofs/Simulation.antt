@@ -6,7 +6,7 @@ use Rattle.smlc_base.specs.declared.point.Point.{Point}
 use Rattle.smlc_base.specs.declared.point.PointKind.TheVariants.{Eq}
 use Rattle.simulation.specs.Blocks.{Block, ClassRecord, IsPrefix, Embeds, Grows, StandsAt}
 use Rattle.simulation.specs.Runs.{Run, Going, Arena, Stuck, is_label, times, visible, listed, seen, IsLawful, IsGrowing}
-use Rattle.simulation.specs.Keeps.{ReachesNoMore, MakesNoMore, EndsFull, Follows, IsSound, IsNamedBy, HasTidyReach, IsKept}
+use Rattle.simulation.specs.Keeps.{ReachesNoMore, MakesNoMore, EndsFull, Follows, IsSound, IsNamedBy, AllNamed, HasTidyReach, IsKept}
 use Rattle.simulation.proofs.Blocks.{prefix_refl, prefix_trans, prefix_of_eq, grows_refl, grows_trans, embeds_grown}
 
 -- ---- Stretches of a run
@@ -62,10 +62,6 @@ stays labels r w i e =
 pub makes_before : (a : Run) (m : ℕ) (b : Run) (n n' : ℕ) → Grows (b.memory n) (b.memory n') → MakesNoMore a m b n' → MakesNoMore a m b n
 makes_before a m b n n' g h =
     (h.0, embeds_grown (b.memory n) (b.memory n') (a.memory m) (λ _. Unit {0}) (λ _. Unit {0}) h.0 g h.1)
-
--- each class record is named by a closure that stands behind it
-abbrev pub AllNamed : List Block → Type 0
-AllNamed memory = (a : ℕ) (x : Block) → StandsAt memory a x → x.kind ≡ ClassRecord → (c : ℕ) × (a < c) × IsNamedBy memory a c
 
 -- ---- What a step of a simulation does
 

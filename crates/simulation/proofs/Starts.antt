@@ -1,8 +1,8 @@
 -- A simulation may begin after steps that b does alone, as a program's first instructions do.
 use Rattle.std.proofs.Common.{◌≡◌, ℕ, suc, ◌<◌, List, Bool, ◌⊎◌, inr, lt-suc_self}
 use Rattle.smlc_base.specs.declared.point.Point.{Point}
+use Rattle.simulation.specs.Keeps.{AllNamed}
 use Rattle.simulation.specs.Machines.{Machine}
-use Rattle.simulation.proofs.Simulation.{AllNamed}
 use Rattle.simulation.proofs.Machines.{Walks, stay, Calm, Makes, StateMove, both_end, both_go, both_pass, b_fills, IsMachineSimulation}
 
 -- moves to related states are moves to states of a wider relation

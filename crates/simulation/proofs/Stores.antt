@@ -2,14 +2,13 @@
 use Rattle.std.proofs.Common.{◌≡◌, ◌≢◌, ℕ, zero, suc, ◌+◌, ◌<◌, List, [], ◌∷◌, ◌++◌, map, set, length, Option, Some, None, slice_get, Bool, true, false, cond, ◌&&◌, ◌==◌, ◌⊎◌, inl, inr, refl, sym, ap, ◌∙◌, subst, arith, ⊎_elim, eqb-true}
 use Rattle.smlc_base.specs.declared.point.Point.{Point}
 use Rattle.simulation.specs.Blocks.{Kind, Closure, Frame, Datum, ClassRecord, SpillRecord, Inside, Block, IsAmong, IsPrefix, StandsAt, Grows}
-use Rattle.simulation.specs.Keeps.{IsNamedBy, HasTidyReach}
+use Rattle.simulation.specs.Keeps.{AllNamed, IsNamedBy, HasTidyReach}
 use Rattle.simulation.specs.Machines.{Machine, state_at, IsSteady}
 use Rattle.simulation.specs.Stores.{Effect, Append, Put, Act, StoreMachine, Configuration, is_datum, may_replace, replaced, affected, affected_on, all_affected, configured, acted, machine_of}
 use Rattle.simulation.proofs.Blocks.{grows_refl, grows_trans}
 use Rattle.simulation.proofs.Heaps.{eq_cases, stands_map, stands_of}
 use Rattle.simulation.proofs.Lists.{some_eq, get_append, get_split, get_past, get_set_same, get_set_other}
 use Rattle.simulation.proofs.Machines.{state_by}
-use Rattle.simulation.proofs.Simulation.{AllNamed}
 use Rattle.simulation.proofs.Tidy.{tidy_none}
 
 pub grows_append : {X : Type 0} (view : X → Block) (xs ys : List X) → Grows (map view xs) (map view (xs ++ ys))

@@ -2,8 +2,7 @@
 use Rattle.std.proofs.Common.{◌≡◌, ◌≢◌, ℕ, List}
 use Rattle.smlc_base.specs.declared.point.Point.{Point}
 use Rattle.simulation.specs.Blocks.{Closure, ClassRecord, SpillRecord, Block, IsAmong, StandsAt, Reach, root, field}
-use Rattle.simulation.specs.Keeps.{IsNamedBy, HasTidyReach}
-use Rattle.simulation.proofs.Simulation.{AllNamed}
+use Rattle.simulation.specs.Keeps.{AllNamed, IsNamedBy, HasTidyReach}
 
 -- only closures name class records
 abbrev pub ClosuresName : List Block → Type 0

@@ -2,11 +2,11 @@
 use Rattle.std.proofs.Common.{◌≡◌, ℕ, ◌+◌, ◌*◌, ◌≤◌, ◌≢◌, List, [], ◌∷◌, ◌++◌, Option, Some, None, slice_get, ◌⊎◌, inl, inr, refl, sym, ap, ◌∙◌, subst, arith, ⊎_elim}
 use Rattle.smlc_base.specs.declared.point.Point.{Point}
 use Rattle.simulation.specs.Blocks.{Kind, Closure, Frame, Datum, ClassRecord, SpillRecord, Inside, Block, IsAmong, points_of, StandsAt, Reach, AreOfOneSort, IsCounted, IsLike, Embeds}
-use Rattle.simulation.specs.Keeps.{IsNamedBy, HasTidyReach}
-use Rattle.simulation.specs.Words.{IsDistinct, weight, kind_words, block_words, words_at, HasWords, AreNamed, IsCharged, Affords}
+use Rattle.simulation.specs.Keeps.{IsNamedBy, AllNamed, HasTidyReach}
+use Rattle.simulation.specs.Words.{IsDistinct, weight, kind_words, block_words, words_at, HasWords, HasMade, AreNamed, IsCharged, Affords}
 use Rattle.simulation.proofs.Lists.{among_left, among_right}
 use Rattle.simulation.proofs.Heaps.{IsUncounted, counted_cases}
-use Rattle.simulation.proofs.Weights.{weight_keys, weight-append, parted, weight_groups, weight_one, weight_zero}
+use Rattle.simulation.proofs.Weights.{weight_contained, weight_keys, weight-append, parted, weight_groups, weight_one, weight_zero}
 
 -- ---- The words of what lies one to one in another memory
 
@@ -349,4 +349,21 @@ reached_words small large rs rl f charge k m n h tidy ch af hw =
     let a = embedded_words small large (Reach small rs) (Reach large rl) f charge k n hw.addresses h ch af hw.distinct (λ a i. let r = hw.reached a i in (r.0, (r.1.0, r.1.1, tidy.no_spill a r.1.0 r.0 r.1.1))) (λ a x i s e.
     let c = tidy.by_closure a x (hw.reached a i).0 s e in (c.0, hw.all c.0 c.2.block c.1 c.2.stands, c.2)) in
     let s = hw.sum in
+    omega arith
+
+-- and of all that was made but spill records, where each class record is named by a closure
+pub made_words : (small large : List Block) (f : ℕ → ℕ) (charge : Point → ℕ) (k m n : ℕ) → Embeds small (λ _. Unit {0}) large (λ _. Unit {0}) f → AllNamed small → IsCharged charge small (λ _. Unit {0}) → Affords k charge large (λ _. Unit {0}) n → HasMade small m → m ≤ k * n
+made_words small large f charge k m n h all ch af hm =
+    let a = embedded_words small large (λ _. Unit {0}) (λ _. Unit {0}) f charge k n hm.addresses h ch af hm.distinct (λ a i. (tt, hm.stand a i)) (λ a x i s e.
+    let c = all a x s e in (c.0, hm.all c.0 c.2.block c.2.stands (λ g. let t : SpillRecord ≡ Closure c.2.point = sym g ∙ c.2.closure in cc), c.2)) in
+    let s = hm.sum in
+    omega arith
+
+-- the words of what is reached are one number
+pub words_one : (memory : List Block) (roots : List ℕ) (m n : ℕ) → HasWords memory roots m → HasWords memory roots n → m ≡ n
+words_one memory roots m n p q =
+    let a = weight_contained (words_at memory) p.addresses q.addresses p.distinct (λ a i. let r = p.reached a i in q.all a r.1.0 r.0 r.1.1) in
+    let b = weight_contained (words_at memory) q.addresses p.addresses q.distinct (λ a i. let r = q.reached a i in p.all a r.1.0 r.0 r.1.1) in
+    let s = p.sum in
+    let t = q.sum in
     omega arith

@@ -1,5 +1,5 @@
 -- What a pass of the compiler keeps: b is the run of the program that it answers, and a the run of its argument.
-use Rattle.std.specs.Prelude.{◌≡◌, ◌≢◌, ℕ, ◌<◌, ◌≤◌, List, Some, Bool, true, false, IsTrue, ◌⊎◌}
+use Rattle.std.specs.Prelude.{◌≡◌, ◌≢◌, ℕ, ◌<◌, ◌≤◌, List, [], ◌∷◌, Some, Bool, true, false, IsTrue, ◌⊎◌}
 use Rattle.smlc_base.specs.declared.point.Point.{Point}
 use Rattle.smlc_base.specs.declared.point.PointKind.TheVariants.{Eq}
 use Rattle.simulation.specs.Blocks.{Block, Closure, ClassRecord, SpillRecord, IsAmong, IsPrefix, StandsAt, Reach, Embeds}
@@ -47,6 +47,10 @@ pub record IsNamedBy (memory : List Block) (a c : ℕ) : Type 0 where
   pub closure : block.kind ≡ Closure point
   pub names : IsAmong a block.fields
 
+-- each class record is named by a closure that stands behind it
+abbrev pub AllNamed : List Block → Type 0
+AllNamed memory = (a : ℕ) (x : Block) → StandsAt memory a x → x.kind ≡ ClassRecord → (c : ℕ) × (a < c) × IsNamedBy memory a c
+
 -- no spill record can be reached, and a class record only where a closure can that names it
 pub record HasTidyReach (memory : List Block) (roots : List ℕ) : Type 0 where
   pub no_spill : (a : ℕ) (x : Block) → Reach memory roots a → StandsAt memory a x → x.kind ≢ SpillRecord
@@ -71,6 +75,19 @@ Keeps a b = IsSound a → IsKept false a b
 -- b keeps a, but may end for want of arena
 abbrev pub KeepsUnlessFull : Run → Run → Type 0
 KeepsUnlessFull a b = IsSound a → IsKept true a b
+
+-- b keeps a, if the records of a are in order, as those of each answer of a pass are
+abbrev pub KeepsTidy : Bool → Run → Run → Type 0
+KeepsTidy full a b = IsSound a → IsTidy false a → IsKept full a b
+
+-- each run keeps the one before it
+abbrev pub EachKeeps : Run → List Run → Type 0
+EachKeeps a [] = Unit {0}
+EachKeeps a (b ∷ passes) = KeepsTidy false a b × EachKeeps b passes
+
+abbrev pub last_of : Run → List Run → Run
+last_of a [] = a
+last_of a (b ∷ passes) = last_of b passes
 
 -- step n of the run passes p, after i passes of it
 pub record IsNthPass (r : Run) (p : Point) (i n : ℕ) : Type 0 where

@@ -1,5 +1,5 @@
 -- The words of what can be reached, and what pays for them.
-use Rattle.std.specs.Prelude.{◌≡◌, ℕ, ◌+◌, ◌*◌, ◌≤◌, List, [], ◌∷◌, Option, Some, None, slice_get}
+use Rattle.std.specs.Prelude.{◌≡◌, ◌≢◌, ℕ, ◌+◌, ◌*◌, ◌≤◌, List, [], ◌∷◌, Option, Some, None, slice_get}
 use Rattle.smlc_base.specs.declared.point.Point.{Point}
 use Rattle.simulation.specs.Blocks.{Kind, Closure, Frame, Datum, ClassRecord, SpillRecord, Inside, Block, IsAmong, points_of, StandsAt, Reach}
 
@@ -35,6 +35,14 @@ pub record HasWords (memory : List Block) (roots : List ℕ) (n : ℕ) : Type 0 
   pub distinct : IsDistinct addresses
   pub reached : (a : ℕ) → IsAmong a addresses → Reach memory roots a × ((x : Block) × StandsAt memory a x)
   pub all : (a : ℕ) (x : Block) → Reach memory roots a → StandsAt memory a x → IsAmong a addresses
+  pub sum : weight (words_at memory) addresses ≡ n
+
+-- the blocks that stand, but for spill records, have n words
+pub record HasMade (memory : List Block) (n : ℕ) : Type 0 where
+  pub addresses : List ℕ
+  pub distinct : IsDistinct addresses
+  pub stand : (a : ℕ) → IsAmong a addresses → (x : Block) × StandsAt memory a x × (x.kind ≢ SpillRecord)
+  pub all : (a : ℕ) (x : Block) → StandsAt memory a x → x.kind ≢ SpillRecord → IsAmong a addresses
   pub sum : weight (words_at memory) addresses ≡ n
 
 -- class records that stand at these addresses, each named by the block
