@@ -1,11 +1,11 @@
 -- Laws of machines that work on a list of items: none takes anything back, and class records stay named.
-use Rattle.std.proofs.Common.{◌≡◌, ◌≢◌, ℕ, zero, suc, ◌+◌, ◌<◌, List, [], ◌∷◌, ◌++◌, map, set, length, Option, Some, None, slice_get, Bool, true, false, cond, ◌&&◌, ◌==◌, ◌⊎◌, inl, inr, refl, sym, ap, ◌∙◌, subst, arith, ⊎_elim, eqb-true}
+use Rattle.std.proofs.Common.{◌≡◌, ◌≢◌, ℕ, zero, suc, ◌+◌, ◌<◌, List, [], ◌∷◌, ◌++◌, map, set, length, Option, Some, None, slice_get, Bool, true, false, cond, ◌&&◌, ◌==◌, ◌⊎◌, inl, inr, refl, sym, ap, ◌∙◌, subst, arith, ⊎_elim, eqb-true, append-nil}
 use Rattle.smlc_base.specs.declared.point.Point.{Point}
 use Rattle.simulation.specs.Blocks.{Kind, Closure, Frame, Datum, ClassRecord, SpillRecord, Inside, Block, IsAmong, IsPrefix, StandsAt, Grows}
 use Rattle.simulation.specs.Keeps.{AllNamed, IsNamedBy, HasTidyReach}
 use Rattle.simulation.specs.Machines.{Machine, state_at, IsSteady}
-use Rattle.simulation.specs.Stores.{Effect, Append, Put, Act, StoreMachine, Configuration, is_datum, may_replace, replaced, affected, affected_on, all_affected, configured, acted, machine_of}
-use Rattle.simulation.proofs.Blocks.{grows_refl, grows_trans}
+use Rattle.simulation.specs.Stores.{Effect, Append, Put, Act, StoreMachine, Configuration, is_datum, may_replace, replaced, affected, affected_on, all_affected, configured, wrote, acted, machine_of}
+use Rattle.simulation.proofs.Blocks.{prefix_refl, grows_refl, grows_trans}
 use Rattle.simulation.proofs.Heaps.{eq_cases, stands_map, stands_of}
 use Rattle.simulation.proofs.Lists.{some_eq, get_append, get_split, get_past, get_set_same, get_set_other}
 use Rattle.simulation.proofs.Machines.{state_by}
@@ -103,10 +103,18 @@ module _ {X : Type 0} (view : X → Block) where
   effects_grow xs zs es e =
       effects_kept view Grown grown_refl grown_trans (λ ys f. Unit {0}) (λ ys us u. grows_append view ys us) grown_put xs zs (Some xs) es (λ ys g. some_eq (Grown xs) xs ys g (grown_refl xs)) (all_fit (Some xs) es) e
 
-configured_steady : {C X : Type 0} (view : X → Block) (next : C) (out told : List ℕ) (xs : List X) (o : Option (List X)) (t : Configuration C X) → ((zs : List X) → o ≡ Some zs → Grows (map view xs) (map view zs)) → configured next (out ++ told) o ≡ Some t → IsPrefix out t.out × Grows (map view xs) (map view t.store)
+wrote_more : (out told : List ℕ) → IsPrefix out (wrote out told)
+wrote_more out [] = prefix_refl out
+wrote_more out (x ∷ xs) = (x ∷ xs, refl)
+
+pub wrote_is : (out told : List ℕ) → wrote out told ≡ out ++ told
+wrote_is out [] = sym (append-nil out)
+wrote_is out (x ∷ xs) = refl
+
+configured_steady : {C X : Type 0} (view : X → Block) (next : C) (out told : List ℕ) (xs : List X) (o : Option (List X)) (t : Configuration C X) → ((zs : List X) → o ≡ Some zs → Grows (map view xs) (map view zs)) → configured next (wrote out told) o ≡ Some t → IsPrefix out t.out × Grows (map view xs) (map view t.store)
 configured_steady view next out told xs None t h e = absurd (cc)
 configured_steady view next out told xs (Some zs) t h e =
-    some_eq (λ u. IsPrefix out u.out × Grows (map view xs) (map view u.store)) (record { control = next; out = out ++ told; store = zs }) t e ((told, refl), h zs refl)
+    some_eq (λ u. IsPrefix out u.out × Grows (map view xs) (map view u.store)) (record { control = next; out = wrote out told; store = zs }) t e (wrote_more out told, h zs refl)
 
 acted_steady : {C X : Type 0} (view : X → Block) (out : List ℕ) (xs : List X) (o : Option (Act C X)) (t : Configuration C X) → acted view out xs o ≡ Some t → IsPrefix out t.out × Grows (map view xs) (map view t.store)
 acted_steady view out xs None t e = absurd (cc)
@@ -220,9 +228,9 @@ acted_named : {C X : Type 0} (view : X → Block) (out : List ℕ) (xs : List X)
 acted_named view out xs None t f e h = absurd (cc)
 acted_named {C} {X} view out xs (Some a) t f e h = by (all_affected view (Some xs) a.effects) (λ zs g. effects_named view xs zs a.effects (f a refl) g h) e
   where
-    by : (o : Option (List X)) → ((zs : List X) → o ≡ Some zs → AllNamed (map view zs)) → configured a.next (out ++ a.told) o ≡ Some t → AllNamed (map view t.store)
+    by : (o : Option (List X)) → ((zs : List X) → o ≡ Some zs → AllNamed (map view zs)) → configured a.next (wrote out a.told) o ≡ Some t → AllNamed (map view t.store)
     by None h e = absurd (cc)
-    by (Some zs) h e = some_eq (λ u. AllNamed (map view u.store)) (record { control = a.next; out = out ++ a.told; store = zs }) t e (h zs refl)
+    by (Some zs) h e = some_eq (λ u. AllNamed (map view u.store)) (record { control = a.next; out = wrote out a.told; store = zs }) t e (h zs refl)
 
 -- a machine that names its class records as it makes them has them named at each moment
 pub store_named : {C X : Type 0} (M : StoreMachine C X) → ((c : C) (xs : List X) (a : Act C X) → M.act c xs ≡ Some a → AllNameTheirs M.view (Some xs) a.effects) → (s : Configuration C X) → AllNamed (map M.view s.store) → (n : ℕ) → AllNamed ((machine_of M).memory (state_at (machine_of M) s n))

@@ -64,9 +64,14 @@ abbrev pub configured : {C X : Type 0} → C → List ℕ → Option (List X) �
 configured next out None = None
 configured next out (Some store) = Some (record { control = next; out = out; store = store })
 
+-- what was written, and then this
+abbrev pub wrote : List ℕ → List ℕ → List ℕ
+wrote out [] = out
+wrote out (x ∷ xs) = out ++ (x ∷ xs)
+
 abbrev pub acted : {C X : Type 0} → (X → Block) → List ℕ → List X → Option (Act C X) → Option (Configuration C X)
 acted view out store None = None
-acted view out store (Some a) = configured a.next (out ++ a.told) (all_affected view (Some store) a.effects)
+acted view out store (Some a) = configured a.next (wrote out a.told) (all_affected view (Some store) a.effects)
 
 abbrev pub machine_of : {C X : Type 0} → StoreMachine C X → Machine (Configuration C X)
 machine_of M = record {
