@@ -4,7 +4,7 @@ use Rattle.smlc_base.specs.declared.point.Point.{Point}
 use Rattle.simulation.specs.Blocks.{IsPrefix, Reach}
 use Rattle.simulation.specs.Runs.{Run, visible, is_label, seen}
 use Rattle.simulation.specs.Keeps.{Follows, IsSound, IsTidy, IsKept, Keeps, AllNamed, KeepsTidy, EachKeeps, last_of, IsNthPass, ReachesNoMore}
-use Rattle.simulation.specs.Words.{HasWords, HasMade, IsCharged, Affords}
+use Rattle.simulation.specs.Words.{HasWords, HasMade, IsCharged, Affords, Any, ReachIsPaid, MakingIsPaid}
 use Rattle.simulation.proofs.Seen.{visible_of}
 use Rattle.simulation.proofs.Compose.{keeps_refl, keeps_trans}
 use Rattle.simulation.proofs.Nth.{nth_entry, nth_one}
@@ -25,7 +25,15 @@ entry_words full a b f tidy p l i m n pa pb k charge small large hw ch af =
     reached_words (b.memory n) (a.memory m) (b.roots n) (a.roots m) r.0 charge k small large r.1 (tidy.reach n p (visible_of b.labels (b.pass n) p pb.passes l)) ch af hw
 
 -- and so are the words that were made, of those of a moment that isn't past the next pass
-pub moment_words : (full : Bool) (a b : Run) → Follows full a b → (n : ℕ) → AllNamed (b.memory n) → (m : ℕ) × IsPrefix (seen b.labels a m) (seen b.labels b n) × ((k : ℕ) (charge : Point → ℕ) (small large : ℕ) → HasMade (b.memory n) small → IsCharged charge (b.memory n) (λ _. Unit {0}) → Affords k charge (a.memory m) (λ _. Unit {0}) large → small ≤ k * large)
+pub moment_words : (full : Bool) (a b : Run) → Follows full a b → (n : ℕ) → AllNamed (b.memory n) → (m : ℕ) × IsPrefix (seen b.labels a m) (seen b.labels b n) × ((k : ℕ) (charge : Point → ℕ) (small large : ℕ) → HasMade (b.memory n) small → IsCharged charge (b.memory n) Any → Affords k charge (a.memory m) Any large → small ≤ k * large)
 moment_words full a b f n named =
     let e = f.made n in
     (e.0, e.1, λ k charge small large hm ch af. made_words (b.memory n) (a.memory e.0) e.2.0 charge k small large e.2.1 named ch af hm)
+
+pub reach_is_paid : (full : Bool) (a b : Run) → Follows full a b → IsTidy full b → ReachIsPaid a b
+reach_is_paid full a b f tidy p i m n k small large charge l pa pb hw ch af = entry_words full a b f tidy p l i m n pa pb k charge small large hw ch af
+
+pub making_is_paid : (full : Bool) (a b : Run) → Follows full a b → MakingIsPaid a b
+making_is_paid full a b f n named =
+    let e = moment_words full a b f n named in
+    (e.0, e.1, λ k small large charge hm ch af. e.2 k charge small large hm ch af)

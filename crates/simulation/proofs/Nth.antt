@@ -2,12 +2,12 @@
 use Rattle.std.proofs.Common.{◌≡◌, ℕ, zero, suc, ◌+◌, List, [], ◌∷◌, ◌++◌, Option, Some, None, Bool, true, false, cond, ◌&&◌, ◌==◌, refl, sym, ap, ap₂, ◌∙◌, subst, arith, eqb-true, eq-eqb, ◌<◌, ◌≤◌, le_refl, ⊎_elim}
 use Rattle.std.proofs.lemmas.Bool.{cases_lt}
 use Rattle.simulation.proofs.Simulation.{from_on}
-use Rattle.std.proofs.Common.{inl, inr}
+use Rattle.std.proofs.Common.{◌⊎◌, inl, inr, IsTrue}
 use Rattle.smlc_base.specs.declared.point.Point.{Point}
 use Rattle.smlc_base.specs.declared.point.PointKind.{PointKind}
 use Rattle.smlc_base.specs.declared.point.PointKind.TheVariants.{Fn, Ret, Caught, Popped, Eq}
-use Rattle.simulation.specs.Runs.{Run, is_same_kind, is_point, is_label, times, visible, listed, seen, one_pass, passes_before}
-use Rattle.simulation.specs.Keeps.{ReachesNoMore, Follows, IsNthPass}
+use Rattle.simulation.specs.Runs.{Run, Arena, is_same_kind, is_point, is_label, times, visible, listed, seen, one_pass, passes_before}
+use Rattle.simulation.specs.Keeps.{ReachesNoMore, Follows, IsNthPass, EntriesArePasses}
 use Rattle.simulation.proofs.Lists.{times-append}
 use Rattle.simulation.proofs.Seen.{visible_some, visible_of}
 
@@ -55,12 +55,15 @@ nth_entry full a b f p l i n h =
     (e.0, record { passes = visible_some b.labels (a.pass e.0) p e.1; after = k }, e.3)
 
 -- and each such pass of a is entered
-pub nth_pass : (a b : Run) → Follows false a b → (p : Point) → is_label b.labels p ≡ true → (i m : ℕ) → IsNthPass a p i m → (n : ℕ) × IsNthPass b p i n
-nth_pass a b f p l i m h =
+pub nth_pass : (full : Bool) (a b : Run) → Follows full a b → (p : Point) → is_label b.labels p ≡ true → (i m : ℕ) → IsNthPass a p i m → ((n : ℕ) × IsNthPass b p i n) ⊎ (IsTrue full × ((n : ℕ) × (b.end n ≡ Arena)))
+nth_pass full a b f p l i m h =
     elim (f.passed m p (visible_of b.labels (a.pass m) p h.passes l)) [
-      | inl e ↦ (e.0, record { passes = visible_some b.labels (b.pass e.0) p e.1; after = sym (times-seen b.labels p b l e.0) ∙ ap (times p) e.2 ∙ times-seen b.labels p a l m ∙ h.after })
-      | inr e ↦ absurd (let u = e.0 in cc)
+      | inl e ↦ inl (e.0, record { passes = visible_some b.labels (b.pass e.0) p e.1; after = sym (times-seen b.labels p b l e.0) ∙ ap (times p) e.2 ∙ times-seen b.labels p a l m ∙ h.after })
+      | inr e ↦ inr e
     ]
+
+pub entries_are_passes : (full : Bool) (a b : Run) → Follows full a b → EntriesArePasses full a b
+entries_are_passes full a b f = record { entered = λ p i n l h. nth_entry full a b f p l i n h; passed = λ p i m l h. nth_pass full a b f p l i m h }
 
 -- ---- The i-th pass is one step
 

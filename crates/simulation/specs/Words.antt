@@ -1,7 +1,9 @@
 -- The words of what can be reached, and what pays for them.
-use Rattle.std.specs.Prelude.{◌≡◌, ◌≢◌, ℕ, ◌+◌, ◌*◌, ◌≤◌, List, [], ◌∷◌, Option, Some, None, slice_get}
+use Rattle.std.specs.Prelude.{◌≡◌, ◌≢◌, ℕ, ◌+◌, ◌*◌, ◌≤◌, List, [], ◌∷◌, Option, Some, None, slice_get, true}
 use Rattle.smlc_base.specs.declared.point.Point.{Point}
-use Rattle.simulation.specs.Blocks.{Kind, Closure, Frame, Datum, ClassRecord, SpillRecord, Inside, Block, IsAmong, points_of, StandsAt, Reach}
+use Rattle.simulation.specs.Blocks.{Kind, Closure, Frame, Datum, ClassRecord, SpillRecord, Inside, Block, IsAmong, IsPrefix, points_of, StandsAt, Reach}
+use Rattle.simulation.specs.Runs.{Run, is_label, seen}
+use Rattle.simulation.specs.Keeps.{AllNamed, IsNthPass}
 
 -- no element stands twice
 abbrev pub IsDistinct : {X : Type 0} → List X → Type 0
@@ -66,3 +68,18 @@ pub record Affords (k : ℕ) (charge : Point → ℕ) (memory : List Block) (Int
   pub datum : (a : ℕ) (x : Block) → IsAmong a addresses → StandsAt memory a x → x.kind ≡ Datum → x.words ≤ k * share a
   pub charges : (a : ℕ) (x : Block) → IsAmong a addresses → StandsAt memory a x → weight charge (points_of x.kind) ≤ k * share a
   pub sum : weight share addresses ≤ n
+
+-- At the i-th entry of each label the words that can be reached are at most k times the words that pay, where a passes it for the i-th time.
+abbrev pub ReachIsPaid : Run → Run → Type 0
+ReachIsPaid a b =
+    (p : Point) (i m n k small large : ℕ) (charge : Point → ℕ) → is_label b.labels p ≡ true → IsNthPass a p i m → IsNthPass b p i n → HasWords (b.memory n) (b.roots n) small → IsCharged charge (b.memory n) (Reach (b.memory n) (b.roots n)) → Affords k charge (a.memory m) (Reach (a.memory m) (a.roots m)) large → small ≤ k * large
+
+-- any address
+abbrev pub Any : ℕ → Type 0
+Any a = Unit {0}
+
+-- At each moment at which b's class records are named, the words that b has made, but for spill records, are at most k times the words
+-- that pay for what a has made by a moment that isn't past a's next pass.
+abbrev pub MakingIsPaid : Run → Run → Type 0
+MakingIsPaid a b =
+    (n : ℕ) → AllNamed (b.memory n) → (m : ℕ) × IsPrefix (seen b.labels a m) (seen b.labels b n) × ((k small large : ℕ) (charge : Point → ℕ) → HasMade (b.memory n) small → IsCharged charge (b.memory n) Any → Affords k charge (a.memory m) Any large → small ≤ k * large)
