@@ -12,16 +12,16 @@ use Rattle.simulation.proofs.Machines.{live_at, Walks, stay, walk, walks_on, mor
 -- ---- The answers
 
 -- b has ended as a has
-pub data Ends {S T : Type 0} (A : Machine S) (B : Machine T) (Through : T → Type 0) (s : S) (t : T) : Type 0 where
-  now : B.step t ≡ None → B.end t ≡ A.end s → Ends A B Through s t
-  later : (d : ℕ) (u : T) → Walks B Through d t u → Ending A B s u → Ends A B Through s t
+pub data Ends {S T : Type 0} (A : Machine S) (B : Machine T) (Quiet : T → Type 0) (s : S) (t : T) : Type 0 where
+  now : B.step t ≡ None → B.end t ≡ A.end s → Ends A B Quiet s t
+  later : (d : ℕ) (u : T) → Walks B Quiet d t u → Ending A B s u → Ends A B Quiet s t
 
 -- b goes on to a state that is related to a's next
-pub record Onward {T : Type 0} (B : Machine T) (Through : T → Type 0) (Then : ℕ → T → Type 0) (t : T) : Type 0 where
+pub record Onward {T : Type 0} (B : Machine T) (Quiet : T → Type 0) (Then : ℕ → T → Type 0) (t : T) : Type 0 where
   pub steps : ℕ
   pub wait : ℕ
   pub to : T
-  pub walk : Walks B Through steps t to
+  pub walk : Walks B Quiet steps t to
   pub then : Then wait to
 
 -- what is shown where both pass a point
@@ -35,55 +35,55 @@ pub record Enters {S T : Type 0} (A : Machine S) (B : Machine T) (s : S) (t : T)
   pub tidy : HasTidyReach (B.memory t) (B.roots t)
 
 -- both do one step from here, with the same pass or none, and b goes on. What is shown at a pass is asked for where there is one.
-pub record Together {S T : Type 0} (A : Machine S) (B : Machine T) (labels : List Point) (Through : T → Type 0) (Then : ℕ → T → Type 0) (s : S) (t : T) : Type 0 where
+pub record Together {S T : Type 0} (A : Machine S) (B : Machine T) (labels : List Point) (Quiet : T → Type 0) (Then : ℕ → T → Type 0) (s : S) (t : T) : Type 0 where
   pub next : T
   pub passes : visible labels (B.pass t) ≡ visible labels (A.pass s)
   pub step : B.step t ≡ Some next
   pub steady : SteadyAt B t
   pub enters : (p : Point) → visible labels (A.pass s) ≡ Some p → Enters A B s t
-  pub on : Onward B Through Then next
+  pub on : Onward B Quiet Then next
 
 -- b ends for want of arena
-pub record Full {S T : Type 0} (A : Machine S) (B : Machine T) (Through : T → Type 0) (s : S) (t : T) : Type 0 where
+pub record Full {S T : Type 0} (A : Machine S) (B : Machine T) (Quiet : T → Type 0) (s : S) (t : T) : Type 0 where
   pub steps : ℕ
   pub to : T
-  pub walk : Walks B Through steps t to
+  pub walk : Walks B Quiet steps t to
   pub end : B.step to ≡ None
   pub arena : B.end to ≡ Arena
   pub wrote : IsPrefix (B.out to) (A.out s)
   pub made : Makes A s B to
 
 -- how b answers a step of a from s
-pub data Answer {S T : Type 0} (full : Bool) (A : Machine S) (B : Machine T) (labels : List Point) (Through : T → Type 0) (Then : ℕ → T → Type 0) (w : ℕ) (s : S) (t : T) : Type 0 where
+pub data Answer {S T : Type 0} (full : Bool) (A : Machine S) (B : Machine T) (labels : List Point) (Quiet : T → Type 0) (Then : ℕ → T → Type 0) (w : ℕ) (s : S) (t : T) : Type 0 where
   -- nothing is passed, and b goes on, or the wait falls
-  silent : Unseen A labels s → (g : Onward B Through Then t) → (0 < g.steps) ⊎ (g.wait < w) → Answer full A B labels Through Then w s t
+  silent : Unseen A labels s → (g : Onward B Quiet Then t) → (0 < g.steps) ⊎ (g.wait < w) → Answer full A B labels Quiet Then w s t
   -- both go one step
-  together : Together A B labels Through Then s t → Answer full A B labels Through Then w s t
+  together : Together A B labels Quiet Then s t → Answer full A B labels Quiet Then w s t
   -- b comes first to a state of its own, from which both go one step
-  after : (d : ℕ) (u : T) → Walks B Through d t u → Shows A B s u → Together A B labels Through Then s u → Answer full A B labels Through Then w s t
-  fills : IsTrue full → Full A B Through s t → Answer full A B labels Through Then w s t
+  after : (d : ℕ) (u : T) → Walks B Quiet d t u → Shows A B s u → Together A B labels Quiet Then s u → Answer full A B labels Quiet Then w s t
+  fills : IsTrue full → Full A B Quiet s t → Answer full A B labels Quiet Then w s t
 
--- Through is what holds of the states that b walks through alone: they pass nothing, and a step takes nothing back.
-pub record IsForward {S T : Type 0} (full : Bool) (A : Machine S) (B : Machine T) (labels : List Point) (Known : S → Type 0) (Through : T → Type 0) (R : ℕ → S → T → Type 0) : Type 0 where
-  pub calm : (t : T) → Through t → Calm B labels t
+-- Quiet is what holds of the states that b walks through alone: they pass nothing, and a step from them takes nothing back.
+pub record IsForward {S T : Type 0} (full : Bool) (A : Machine S) (B : Machine T) (labels : List Point) (Known : S → Type 0) (Quiet : T → Type 0) (R : ℕ → S → T → Type 0) : Type 0 where
+  pub calm : (t : T) → Quiet t → Calm B labels t
   pub shows : (w : ℕ) (s : S) (t : T) → Known s → R w s t → Shows A B s t
-  pub ended : (w : ℕ) (s : S) (t : T) → Known s → R w s t → A.step s ≡ None → Ends A B Through s t
-  pub step : (w : ℕ) (s s' : S) (t : T) → Known s → R w s t → A.step s ≡ Some s' → Answer full A B labels Through (λ v u. R v s' u) w s t
+  pub ended : (w : ℕ) (s : S) (t : T) → Known s → R w s t → A.step s ≡ None → Ends A B Quiet s t
+  pub step : (w : ℕ) (s s' : S) (t : T) → Known s → R w s t → A.step s ≡ Some s' → Answer full A B labels Quiet (λ v u. R v s' u) w s t
 
 -- ---- The theorem
 
-module _ {S T : Type 0} (full : Bool) (A : Machine S) (B : Machine T) (labels : List Point) (Known : S → Type 0) (Through : T → Type 0) (R : ℕ → S → T → Type 0) (f : IsForward full A B labels Known Through R) where
-  calm_walk : (c : ℕ) (t u : T) → Walks B Through c t u → Walks B (Calm B labels) c t u
-  calm_walk c t u w = more_of B Through (Calm B labels) f.calm c t u w
+module _ {S T : Type 0} (full : Bool) (A : Machine S) (B : Machine T) (labels : List Point) (Known : S → Type 0) (Quiet : T → Type 0) (R : ℕ → S → T → Type 0) (f : IsForward full A B labels Known Quiet R) where
+  calm_walk : (c : ℕ) (t u : T) → Walks B Quiet c t u → Walks B (Calm B labels) c t u
+  calm_walk c t u w = more_of B Quiet (Calm B labels) f.calm c t u w
 
-  ends_move : (w : ℕ) (s : S) (t : T) → A.step s ≡ None → Shows A B s t → Ends A B Through s t → StateMove full A B labels R w s t
+  ends_move : (w : ℕ) (s : S) (t : T) → A.step s ≡ None → Shows A B s t → Ends A B Quiet s t → StateMove full A B labels R w s t
   ends_move w s t e h (now g k) =
       both_end (record { c = 0; d = 0; to_a = s; to_b = t; walk_a = stay s; walk_b = stay t })
       (record { end_a = e; end_b = g; same = k; out = h.out; made = h.made; named = h.named })
   ends_move w s t e h (later d u v k) =
       both_end (record { c = 0; d = d; to_a = s; to_b = u; walk_a = stay s; walk_b = calm_walk d t u v }) k
 
-  together_move : (w d : ℕ) (s s' : S) (t u : T) → A.step s ≡ Some s' → Walks B Through d t u → Shows A B s u → Together A B labels Through (λ v u. R v s' u) s u → StateMove full A B labels R w s t
+  together_move : (w d : ℕ) (s s' : S) (t u : T) → A.step s ≡ Some s' → Walks B Quiet d t u → Shows A B s u → Together A B labels Quiet (λ v u. R v s' u) s u → StateMove full A B labels R w s t
   together_move w d s s' t u e v h g = let o = g.on in ⊎_elim
       (λ (n : visible labels (A.pass s) ≡ None).
       both_go (record {
@@ -116,7 +116,7 @@ module _ {S T : Type 0} (full : Bool) (A : Machine S) (B : Machine T) (labels : 
       }))
       (option_cases (visible labels (A.pass s)))
 
-  step_move : (w : ℕ) (s s' : S) (t : T) → A.step s ≡ Some s' → Shows A B s t → Answer full A B labels Through (λ v u. R v s' u) w s t → StateMove full A B labels R w s t
+  step_move : (w : ℕ) (s s' : S) (t : T) → A.step s ≡ Some s' → Shows A B s t → Answer full A B labels Quiet (λ v u. R v s' u) w s t → StateMove full A B labels R w s t
   step_move w s s' t e h (silent n g m) =
       both_go (record {
         c = 1;
@@ -160,6 +160,6 @@ pub live_known : {S : Type 0} (A : Machine S) (labels : List Point) (s : S) → 
 live_known A labels s sound n = live_at A s (λ m. sound.never_stuck m) n
 
 -- The forward simulation theorem: from related starts b keeps a.
-pub forward_keeps : {S T : Type 0} (full : Bool) (A : Machine S) (B : Machine T) (la lb : List Point) (s : S) (t : T) (Known : S → Type 0) (Through : T → Type 0) (R : ℕ → S → T → Type 0) → (IsSound (run_from A la s) → (n : ℕ) → Known (state_at A s n)) → IsForward full A B lb Known Through R → IsSteady A → ((p : Point) → is_label lb p ≡ true → is_label la p ≡ true) → ((p : Point) → p.kind ≢ Eq → times p lb ≤ 1) → (w : ℕ) → R w s t → IsSound (run_from A la s) → IsKept full (run_from A la s) (run_from B lb t)
-forward_keeps full A B la lb s t Known Through R known f steady fewer once w start sound =
-    machines_keep full A B la lb s t Known (known sound) R (forward_simulates full A B lb Known Through R f) steady fewer once w start sound
+pub forward_keeps : {S T : Type 0} (full : Bool) (A : Machine S) (B : Machine T) (la lb : List Point) (s : S) (t : T) (Known : S → Type 0) (Quiet : T → Type 0) (R : ℕ → S → T → Type 0) → (IsSound (run_from A la s) → (n : ℕ) → Known (state_at A s n)) → IsForward full A B lb Known Quiet R → IsSteady A → ((p : Point) → is_label lb p ≡ true → is_label la p ≡ true) → ((p : Point) → p.kind ≢ Eq → times p lb ≤ 1) → (w : ℕ) → R w s t → IsSound (run_from A la s) → IsKept full (run_from A la s) (run_from B lb t)
+forward_keeps full A B la lb s t Known Quiet R known f steady fewer once w start sound =
+    machines_keep full A B la lb s t Known (known sound) R (forward_simulates full A B lb Known Quiet R f) steady fewer once w start sound

@@ -68,9 +68,9 @@ module _ {X Y : Type 0} (view_x : X → Block) (view_y : Y → Block) (f : ℕ �
         let p = stands_map view_x xs a x s in
         let j : IsAmong i (view_x p.0).fields = subst (λ z. IsAmong i z.fields) (sym p.2) m in
         let l : i < length xs = ⊎_elim
-            (λ (c : IsCounted (view_x p.0)). ((h.item a p.0 p.1 c).2.leads i j).0)
-            (λ (c : IsUncounted (view_x p.0)). h.outside a i p.0 p.1 c j)
-            (counted_cases (view_x p.0)) in
+        (λ (c : IsCounted (view_x p.0)). ((h.item a p.0 p.1 c).2.leads i j).0)
+        (λ (c : IsUncounted (view_x p.0)). h.outside a i p.0 p.1 c j)
+        (counted_cases (view_x p.0)) in
         omega (arith, length-map xs view_x);
     leads = λ a i b x y s c m t u d.
         let p = stands_map view_x xs a x s in

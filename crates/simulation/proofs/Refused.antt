@@ -11,10 +11,10 @@ no_excuse e = cc
 
 module _ (a b : Run) (k : IsKept false a b) where
   pub loses_output : LosesOutput a b → ⊥
-  loses_output h = elim (k.follows.told h.0) [ | inl e ↦ h.1 e.0 e.1 | inr e ↦ no_excuse e.0 ]
+  loses_output h = elim (k.follows.told h.0) [ inl e ↦ h.1 e.0 e.1 | inr e ↦ no_excuse e.0 ]
 
   pub never_ends : NeverEnds a b → ⊥
-  never_ends h = elim (k.follows.ends h.0 h.1) [ | inl e ↦ h.1 (sym e.1 ∙ h.2 e.0) | inr e ↦ no_excuse e.0 ]
+  never_ends h = elim (k.follows.ends h.0 h.1) [ inl e ↦ h.1 (sym e.1 ∙ h.2 e.0) | inr e ↦ no_excuse e.0 ]
 
   pub enters_too_often : EntersTooOften a b → ⊥
   enters_too_often h = let e = nth_entry false a b k.follows h.0 h.3 h.1 h.2 h.4 in h.5 e.0 e.1
@@ -33,4 +33,4 @@ module _ (a b : Run) (k : IsKept false a b) where
       h.5 e.0 (e.2.0 h.1) i.0 i.1 i.3
 
   pub leaves_unnamed : LeavesUnnamed b → ⊥
-  leaves_unnamed h = elim (k.tidy.named h.0 h.1 h.2 h.3 h.4) [ | inl e ↦ h.5 e.0 e.1 e.3 | inr e ↦ no_excuse e.0 ]
+  leaves_unnamed h = elim (k.tidy.named h.0 h.1 h.2 h.3 h.4) [ inl e ↦ h.5 e.0 e.1 e.3 | inr e ↦ no_excuse e.0 ]

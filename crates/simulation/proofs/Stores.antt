@@ -2,14 +2,14 @@
 use Rattle.std.proofs.Common.{◌≡◌, ◌≢◌, ℕ, zero, suc, ◌+◌, ◌<◌, List, [], ◌∷◌, ◌++◌, map, set, length, Option, Some, None, slice_get, Bool, true, false, cond, ◌&&◌, ◌==◌, ◌⊎◌, inl, inr, refl, sym, ap, ◌∙◌, subst, arith, ⊎_elim, eqb-true, append-nil}
 use Rattle.smlc_base.specs.declared.point.Point.{Point}
 use Rattle.simulation.specs.Blocks.{Kind, Closure, Frame, Datum, ClassRecord, SpillRecord, Inside, Block, IsAmong, IsPrefix, StandsAt, Grows}
-use Rattle.simulation.specs.Keeps.{AllNamed, IsNamedBy, HasTidyReach}
-use Rattle.simulation.specs.Machines.{Machine, state_at, IsSteady}
+use Rattle.simulation.specs.Keeps.{AllNamed, IsNamedBy, HasTidyReach, IsTidy}
+use Rattle.simulation.specs.Machines.{Machine, state_at, run_from, IsSteady}
 use Rattle.simulation.specs.Stores.{Effect, Append, Put, Act, StoreMachine, Configuration, is_datum, may_replace, replaced, affected, affected_on, all_affected, configured, wrote, acted, machine_of}
 use Rattle.simulation.proofs.Blocks.{prefix_refl, grows_refl, grows_trans}
 use Rattle.simulation.proofs.Heaps.{eq_cases, stands_map, stands_of}
 use Rattle.simulation.proofs.Lists.{some_eq, get_append, get_split, get_past, get_set_same, get_set_other}
 use Rattle.simulation.proofs.Machines.{state_by}
-use Rattle.simulation.proofs.Tidy.{tidy_none}
+use Rattle.simulation.proofs.Tidy.{tidy_none, tidy_run}
 
 pub grows_append : {X : Type 0} (view : X → Block) (xs ys : List X) → Grows (map view xs) (map view (xs ++ ys))
 grows_append view xs ys a x s =
@@ -131,15 +131,24 @@ put_done view xs a x y g m = ap (replaced view xs a y) g ∙ ap (λ b. cond b (S
 
 -- ---- Languages without records
 
-pub plain_named : {X : Type 0} (view : X → Block) → ((x : X) → ((view x).kind ≢ ClassRecord) × ((view x).kind ≢ SpillRecord)) → (xs : List X) → AllNamed (map view xs)
-plain_named view never xs = (tidy_none (map view xs) [] (plain view never xs)).1
-  where
-    plain : {X : Type 0} (view : X → Block) → ((x : X) → ((view x).kind ≢ ClassRecord) × ((view x).kind ≢ SpillRecord)) → (xs : List X) → (a : ℕ) (x : Block) → StandsAt (map view xs) a x → (x.kind ≢ ClassRecord) × (x.kind ≢ SpillRecord)
-    plain view never xs a x s = let p = stands_map view xs a x s in subst (λ t. (t.kind ≢ ClassRecord) × (t.kind ≢ SpillRecord)) p.2 (never p.0)
+-- no item is seen as a class record or a spill record
+abbrev pub HasNoRecord : {X : Type 0} → (X → Block) → Type 0
+HasNoRecord {X} view = (x : X) → ((view x).kind ≢ ClassRecord) × ((view x).kind ≢ SpillRecord)
 
-pub plain_tidy : {X : Type 0} (view : X → Block) → ((x : X) → ((view x).kind ≢ ClassRecord) × ((view x).kind ≢ SpillRecord)) → (xs : List X) (roots : List ℕ) → HasTidyReach (map view xs) roots
-plain_tidy view never xs roots =
-    (tidy_none (map view xs) roots (λ a x s. let p = stands_map view xs a x s in subst (λ t. (t.kind ≢ ClassRecord) × (t.kind ≢ SpillRecord)) p.2 (never p.0))).0
+plain : {X : Type 0} (view : X → Block) → HasNoRecord view → (xs : List X) (a : ℕ) (x : Block) → StandsAt (map view xs) a x → (x.kind ≢ ClassRecord) × (x.kind ≢ SpillRecord)
+plain view never xs a x s = let p = stands_map view xs a x s in subst (λ t. (t.kind ≢ ClassRecord) × (t.kind ≢ SpillRecord)) p.2 (never p.0)
+
+pub plain_named : {X : Type 0} (view : X → Block) → HasNoRecord view → (xs : List X) → AllNamed (map view xs)
+plain_named view never xs = (tidy_none (map view xs) [] (plain view never xs)).1
+
+pub plain_tidy : {X : Type 0} (view : X → Block) → HasNoRecord view → (xs : List X) (roots : List ℕ) → HasTidyReach (map view xs) roots
+plain_tidy view never xs roots = (tidy_none (map view xs) roots (plain view never xs)).0
+
+-- so the records of its runs are in order, as there are none
+pub plain_run : {C X : Type 0} (full : Bool) (M : StoreMachine C X) (labels : List Point) (s : Configuration C X) → HasNoRecord M.view → IsTidy full (run_from (machine_of M) labels s)
+plain_run {C} {X} full M labels s never =
+    let at : ℕ → Configuration C X = λ n. state_at (machine_of M) s n in
+    tidy_run full (run_from (machine_of M) labels s) (λ n. plain_named M.view never (at n).store) (λ n p v. plain_tidy M.view never (at n).store (M.roots (at n).control (at n).store))
 
 -- ---- Class records stay named
 
@@ -168,8 +177,7 @@ module _ {X : Type 0} (view : X → Block) where
       (λ (g : (c : ℕ) × (a ≡ length xs + c) × (slice_get ys c ≡ Some p.0)).
       let q = own g.0 p.0 g.2 (ap (λ t. t.kind) p.2 ∙ k) in
       let at = g.1 in
-      let less = q.3 in
-      (
+      let less = q.3 in (
         length xs + q.0,
         omega arith,
         record {
@@ -197,14 +205,17 @@ module _ {X : Type 0} (view : X → Block) where
       let off : q.0 ≢ a = λ e.
       let i : Some o.0 ≡ Some x = sym o.1 ∙ ap (slice_get xs) e ∙ g in
       let j : o.0 ≡ x = cc in
-      let t : Datum ≡ Closure q.2.point = sym r.old_datum ∙ ap (λ u. (view u).kind) (sym j) ∙ ap (λ t. t.kind) o.2 ∙ q.2.closure in cc in
-      (q.0, q.1, record {
-        block = q.2.block;
-        point = q.2.point;
-        stands = subst (λ t. StandsAt (map view (set xs a y)) q.0 t) o.2 (stands_of view (set xs a y) q.0 o.0 (get_set_other xs a y q.0 off ∙ o.1));
-        closure = q.2.closure;
-        names = q.2.names;
-      }))
+      let t : Datum ≡ Closure q.2.point = sym r.old_datum ∙ ap (λ u. (view u).kind) (sym j) ∙ ap (λ t. t.kind) o.2 ∙ q.2.closure in cc in (
+        q.0,
+        q.1,
+        record {
+          block = q.2.block;
+          point = q.2.point;
+          stands = subst (λ t. StandsAt (map view (set xs a y)) q.0 t) o.2 (stands_of view (set xs a y) q.0 o.0 (get_set_other xs a y q.0 off ∙ o.1));
+          closure = q.2.closure;
+          names = q.2.names;
+        },
+      ))
       (eq_cases b a)
 
   abbrev Named : List X → List X → Type 0

@@ -47,7 +47,7 @@ pub record IsNamedBy (memory : List Block) (a c : ℕ) : Type 0 where
   pub closure : block.kind ≡ Closure point
   pub names : IsAmong a block.fields
 
--- each class record is named by a closure that stands behind it
+-- each class record is named by a closure that was made after it, since blocks are made at a memory's end
 abbrev pub AllNamed : List Block → Type 0
 AllNamed memory = (a : ℕ) (x : Block) → StandsAt memory a x → x.kind ≡ ClassRecord → (c : ℕ) × (a < c) × IsNamedBy memory a c
 
