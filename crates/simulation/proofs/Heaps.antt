@@ -4,6 +4,7 @@ use Rattle.std.proofs.lemmas.Bool.{cases_lt}
 use Rattle.std.proofs.lemmas.Option.{slice_get_within}
 use Rattle.smlc_base.specs.declared.point.Point.{Point}
 use Rattle.simulation.specs.Blocks.{Kind, Closure, Frame, Datum, ClassRecord, SpillRecord, Inside, Block, IsAmong, points_of, StandsAt, Reach, root, field, AreOfOneSort, IsCounted, IsLike, Embeds}
+use Rattle.simulation.proofs.Lists.{get_append, get_last, get_below}
 use Rattle.simulation.proofs.Blocks.{reach_least, like_same, sort_same}
 
 -- it stands outside the maps: a class record, a spill record, or no block at all
@@ -98,15 +99,10 @@ heap_reaches small large f rs rl h start =
 
 -- ---- Making blocks
 
-pub stands_below : (m : List Block) (a : ℕ) → a < length m → (x : Block) × StandsAt m a x
-stands_below [] a h = absurd (omega arith)
-stands_below (x ∷ m) zero h = (x, refl)
-stands_below (x ∷ m) (suc a) h = stands_below m a (omega arith)
-
 -- a block of the old memory stands there with all that it had
 pub stands_old : (old new : List Block) → Extends old new → (a : ℕ) (x : Block) → a < length old → StandsAt new a x → StandsAt old a x
 stands_old old new e a x l s =
-    let i = stands_below old a l in
+    let i = get_below old a l in
     let f : Some i.0 ≡ Some x = sym (e a i.0 i.1) ∙ s in
     i.1 ∙ f
 
@@ -185,20 +181,13 @@ pub extends_refl : (m : List Block) → Extends m m
 extends_refl m a x s = s
 
 pub extends_append : (m n : List Block) → Extends m (m ++ n)
-extends_append [] n a x s = absurd (cc)
-extends_append (y ∷ m) n zero x s = s
-extends_append (y ∷ m) n (suc a) x s = extends_append m n a x s
-
--- the new block stands at the end
-pub stands_last : (m : List Block) (x : Block) → StandsAt (m ++ x ∷ []) (length m) x
-stands_last [] x = refl
-stands_last (y ∷ m) x = stands_last m x
+extends_append m n a x s = get_append m n a x s
 
 pub stands_past : (m : List Block) (x y : Block) (a : ℕ) → length m ≤ a → StandsAt (m ++ x ∷ []) a y → (a ≡ length m) × (y ≡ x)
 stands_past m x y a l s =
     let w : a < length (m ++ x ∷ []) = slice_get_within (m ++ x ∷ []) a y s in
     let e : a ≡ length m = omega (arith, length-append m (x ∷ [])) in
-    let f : Some y ≡ Some x = sym (subst (λ t. StandsAt (m ++ x ∷ []) t y) e s) ∙ stands_last m x in
+    let f : Some y ≡ Some x = sym (subst (λ t. StandsAt (m ++ x ∷ []) t y) e s) ∙ get_last m x in
     (e, cc)
 
 -- only the larger makes blocks

@@ -8,7 +8,7 @@ use Rattle.smlc_base.specs.declared.point.PointKind.{PointKind}
 use Rattle.smlc_base.specs.declared.point.PointKind.TheVariants.{Fn, Ret, Caught, Popped, Eq}
 use Rattle.simulation.specs.Runs.{Run, Arena, is_same_kind, is_point, is_label, times, visible, listed, seen, one_pass, passes_before}
 use Rattle.simulation.specs.Keeps.{ReachesNoMore, Follows, IsNthPass, EntriesArePasses}
-use Rattle.simulation.proofs.Lists.{times-append}
+use Rattle.simulation.proofs.Lists.{both_true, times-append}
 use Rattle.simulation.proofs.Seen.{visible_some, visible_of}
 
 pub same_kind_eq : (r s : PointKind) → is_same_kind r s ≡ true → r ≡ s
@@ -18,10 +18,6 @@ same_kind_eq Caught Caught h = refl
 same_kind_eq Popped Popped h = refl
 same_kind_eq Eq Eq h = refl
 same_kind_eq _ _ h = cc
-
-both_true : (a b : Bool) → (a && b) ≡ true → (a ≡ true) × (b ≡ true)
-both_true true b h = (refl, h)
-both_true false b h = absurd (cc)
 
 -- the test finds the point itself and no other
 pub point_eq : (p q : Point) → is_point p q ≡ true → p ≡ q

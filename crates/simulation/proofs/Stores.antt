@@ -7,14 +7,17 @@ use Rattle.simulation.specs.Machines.{Machine, state_at, run_from, IsSteady}
 use Rattle.simulation.specs.Stores.{Effect, Append, Put, Act, StoreMachine, Configuration, is_datum, may_replace, replaced, affected, affected_on, all_affected, configured, wrote, acted, machine_of}
 use Rattle.simulation.proofs.Blocks.{prefix_refl, grows_refl, grows_trans}
 use Rattle.simulation.proofs.Heaps.{eq_cases, stands_map, stands_of}
-use Rattle.simulation.proofs.Lists.{some_eq, get_append, get_split, get_past, get_set_same, get_set_other}
+use Rattle.simulation.proofs.Lists.{both_true, some_eq, get_append, get_split, get_past, get_set_same, get_set_other}
 use Rattle.simulation.proofs.Machines.{state_by}
 use Rattle.simulation.proofs.Tidy.{tidy_none, tidy_run}
 
-pub grows_append : {X : Type 0} (view : X → Block) (xs ys : List X) → Grows (map view xs) (map view (xs ++ ys))
-grows_append view xs ys a x s =
+pub stands_append : {X : Type 0} (view : X → Block) (xs ys : List X) (a : ℕ) (x : Block) → StandsAt (map view xs) a x → StandsAt (map view (xs ++ ys)) a x
+stands_append view xs ys a x s =
     let p = stands_map view xs a x s in
-    (x, subst (λ t. slice_get (map view (xs ++ ys)) a ≡ Some t) p.2 (stands_of view (xs ++ ys) a p.0 (get_append xs ys a p.0 p.1)), refl, refl)
+    subst (λ t. StandsAt (map view (xs ++ ys)) a t) p.2 (stands_of view (xs ++ ys) a p.0 (get_append xs ys a p.0 p.1))
+
+pub grows_append : {X : Type 0} (view : X → Block) (xs ys : List X) → Grows (map view xs) (map view (xs ++ ys))
+grows_append view xs ys a x s = (x, stands_append view xs ys a x s, refl, refl)
 
 pub grows_set : {X : Type 0} (view : X → Block) (xs : List X) (a : ℕ) (x y : X) → slice_get xs a ≡ Some x → (view y).kind ≡ (view x).kind → (view y).words ≡ (view x).words → Grows (map view xs) (map view (set xs a y))
 grows_set view xs a x y at k w b z s =
@@ -41,10 +44,6 @@ pub record Replaces (old new : Block) : Type 0 where
   pub old_datum : old.kind ≡ Datum
   pub new_datum : new.kind ≡ Datum
   pub words : new.words ≡ old.words
-
-both_true : (b c : Bool) → (b && c) ≡ true → (b ≡ true) × (c ≡ true)
-both_true true c e = (refl, e)
-both_true false c e = absurd (cc)
 
 pub replaces : (old new : Block) → may_replace old new ≡ true → Replaces old new
 replaces old new e =
@@ -162,18 +161,13 @@ FitsNamed view xs (Append ys) = NamesItsOwn view xs ys
 FitsNamed view xs (Put a y) = Unit {0}
 
 module _ {X : Type 0} (view : X → Block) where
-  stands_append : (xs ys : List X) (a : ℕ) (x : Block) → StandsAt (map view xs) a x → StandsAt (map view (xs ++ ys)) a x
-  stands_append xs ys a x s =
-      let p = stands_map view xs a x s in
-      subst (λ t. StandsAt (map view (xs ++ ys)) a t) p.2 (stands_of view (xs ++ ys) a p.0 (get_append xs ys a p.0 p.1))
-
   pub named_append : (xs ys : List X) → NamesItsOwn view xs ys → AllNamed (map view xs) → AllNamed (map view (xs ++ ys))
   named_append xs ys own h a x s k =
       let p = stands_map view (xs ++ ys) a x s in
       ⊎_elim
       (λ (g : slice_get xs a ≡ Some p.0).
       let r = h a x (subst (λ t. StandsAt (map view xs) a t) p.2 (stands_of view xs a p.0 g)) k in
-      (r.0, r.1, record { block = r.2.block; point = r.2.point; stands = stands_append xs ys r.0 r.2.block r.2.stands; closure = r.2.closure; names = r.2.names }))
+      (r.0, r.1, record { block = r.2.block; point = r.2.point; stands = stands_append view xs ys r.0 r.2.block r.2.stands; closure = r.2.closure; names = r.2.names }))
       (λ (g : (c : ℕ) × (a ≡ length xs + c) × (slice_get ys c ≡ Some p.0)).
       let q = own g.0 p.0 g.2 (ap (λ t. t.kind) p.2 ∙ k) in
       let at = g.1 in
