@@ -1,10 +1,10 @@
 -- How the store of closures lies in the store of frames.
-use Rattle.std.proofs.Common.{map, slice_get, ◌≡◌, ◌≢◌, ℕ, zero, suc, ◌+◌, ◌<◌, ◌≤◌, List, [], ◌∷◌, ◌++◌, length, Some, None, ◌⊎◌, inl, inr, refl, sym, ap, ◌∙◌, subst, arith, ⊎_elim, length-append}
+use Rattle.std.proofs.Common.{map, slice_get, ◌≡◌, ◌≢◌, ℕ, zero, suc, ◌+◌, ◌<◌, List, [], ◌∷◌, ◌++◌, length, Some, ◌⊎◌, inl, inr, refl, sym, ap, ◌∙◌, subst, arith, ⊎_elim}
 use Rattle.std.proofs.lemmas.Option.{slice_get_within}
 use Rattle.smlc_base.specs.declared.point.Point.{Point}
-use Rattle.simulation.specs.Blocks.{Closure, Frame, Datum, ClassRecord, SpillRecord, Block, IsAmong, StandsAt, AreOfOneSort, IsCounted}
+use Rattle.simulation.specs.Blocks.{Closure, ClassRecord, SpillRecord, Block, IsAmong, StandsAt, AreOfOneSort, IsCounted}
 use Rattle.simulation.specs.Keeps.{IsNamedBy, AllNamed, HasTidyReach}
-use Rattle.simulation.proofs.Heaps.{IsUncounted, LeadsFrom, straight, by_code, IsHeapMap, with_image, with_same, with_other, stands_map, stands_of, eq_cases}
+use Rattle.simulation.proofs.Heaps.{IsUncounted, straight, by_code, IsHeapMap, with_image, with_same, with_other, stands_map, stands_of}
 use Rattle.simulation.proofs.Items.{Led, led, by_fields, StandsFor, heap_of_items}
 use Rattle.simulation.proofs.Lists.{some_eq, get_append, get_last, get_past, get_split, among_one}
 use Rattle.simulation.proofs.Tidy.{tidy_reach}

@@ -1,26 +1,24 @@
 -- The machine with closures keeps the machine with frames.
-use Rattle.std.proofs.Common.{map, slice_get, ◌≡◌, ◌≢◌, ℕ, suc, ◌<◌, ◌≤◌, List, [], ◌∷◌, ◌++◌, length, Some, None, Bool, true, false, cond, ◌||◌, inl, inr, refl, sym, subst, arith, lt-suc_self}
+use Rattle.std.proofs.Common.{map, slice_get, ◌≡◌, ◌≢◌, ℕ, suc, ◌≤◌, List, [], ◌∷◌, ◌++◌, length, Some, None, Bool, true, false, cond, ◌||◌, inl, inr, refl, arith}
 use Rattle.smlc_base.specs.declared.point.Point.{Point}
 use Rattle.smlc_base.specs.declared.point.PointKind.TheVariants.{Eq}
-use Rattle.simulation.specs.Blocks.{IsAmong, Reach, Embeds}
-use Rattle.simulation.specs.Runs.{is_label, is_point, times, visible}
+use Rattle.simulation.specs.Runs.{is_label, is_point, times}
 use Rattle.simulation.specs.Keeps.{Keeps}
 use Rattle.simulation.specs.Machines.{Machine, IsLive}
 use Rattle.simulation.specs.Stores.{Configuration, machine_of}
 use Rattle.simulation.proofs.Heaps.{straight}
 use Rattle.simulation.proofs.Items.{led, roots_reach}
 use Rattle.simulation.proofs.Lists.{some_eq, get_last}
-use Rattle.simulation.proofs.Machines.{Walks, stay, walk, Unseen, live_ends}
+use Rattle.simulation.proofs.Machines.{stay, walk, Unseen}
 use Rattle.simulation.proofs.Forward.{Ends, now, Shows, Enters, Answer, silent, together, IsForward, live_known, forward_keeps}
 use Rattle.simulation.proofs.Stores.{store_steady}
 use Rattle.pass_example.specs.declared.Op.{Op}
 use Rattle.pass_example.specs.declared.Op.TheVariants.{Say, Skip}
-use Rattle.pass_example.specs.declared.Instr.{Instr}
 use Rattle.pass_example.specs.declared.Instr.TheVariants.{Emit}
 use Rattle.pass_example.specs.Frames.{outer, inner, Held, held, held_block, Doing, Do, Pushed, Return, frames, run_ops}
 use Rattle.pass_example.specs.Closures.{Thing, Class, Code, thing_block, Running, Run_on, Enter, closures, run_instrs}
 use Rattle.pass_example.specs.Lower.{lowered}
-use Rattle.pass_example.proofs.Relation.{IsCode, StandFor, Heap, at_code, heap_map, heap_named, heap_tidy, heap_frames, more_frames, more_things, more_f, new_stands, heap_more}
+use Rattle.pass_example.proofs.Relation.{StandFor, Heap, at_code, heap_map, heap_named, heap_tidy, heap_frames, more_frames, more_things, more_f, new_stands, heap_more}
 
 abbrev A : Machine (Configuration Doing Held)
 A = machine_of frames

@@ -3,8 +3,8 @@ use Rattle.std.specs.Prelude.{ℕ, suc, List, [], ◌∷◌, length, Option, Som
 use Rattle.smlc_base.specs.declared.point.Point.{Point}
 use Rattle.simulation.specs.Blocks.{Closure, ClassRecord, Block}
 use Rattle.simulation.specs.Runs.{Run, End, Normal, Stuck}
-use Rattle.simulation.specs.Machines.{Machine, run_from}
-use Rattle.simulation.specs.Stores.{Act, StoreMachine, Configuration, machine_of, tells, makes}
+use Rattle.simulation.specs.Machines.{run_from}
+use Rattle.simulation.specs.Stores.{Act, StoreMachine, machine_of, tells, makes}
 use Rattle.pass_example.specs.declared.Instr.{Instr}
 use Rattle.pass_example.specs.declared.Instr.TheVariants.{Emit}
 use Rattle.pass_example.specs.Frames.{inner}

@@ -4,8 +4,8 @@ use Rattle.smlc_base.specs.declared.point.Point.{Point}
 use Rattle.smlc_base.specs.declared.point.PointKind.TheVariants.{Ret}
 use Rattle.simulation.specs.Blocks.{Frame, Block}
 use Rattle.simulation.specs.Runs.{Run, End, Normal, Stuck}
-use Rattle.simulation.specs.Machines.{Machine, run_from}
-use Rattle.simulation.specs.Stores.{Act, StoreMachine, Configuration, machine_of, goes, tells, makes}
+use Rattle.simulation.specs.Machines.{run_from}
+use Rattle.simulation.specs.Stores.{Act, StoreMachine, machine_of, goes, tells, makes}
 use Rattle.pass_example.specs.declared.Op.{Op}
 use Rattle.pass_example.specs.declared.Op.TheVariants.{Say, Skip}
 

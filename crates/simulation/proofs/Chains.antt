@@ -1,12 +1,12 @@
 -- Any number of passes keep what each of them keeps.
-use Rattle.std.proofs.Common.{◌≡◌, ℕ, ◌*◌, ◌≤◌, List, [], ◌∷◌, Bool, true, false, sym, subst}
+use Rattle.std.proofs.Common.{◌≡◌, ℕ, ◌*◌, ◌≤◌, List, [], ◌∷◌, Bool, true, false, subst}
 use Rattle.smlc_base.specs.declared.point.Point.{Point}
 use Rattle.simulation.specs.Blocks.{IsPrefix, Reach}
-use Rattle.simulation.specs.Runs.{Run, visible, is_label, seen}
-use Rattle.simulation.specs.Keeps.{Follows, IsSound, IsTidy, IsKept, Keeps, AllNamed, KeepsTidy, EachKeeps, last_of, IsNthPass, ReachesNoMore}
+use Rattle.simulation.specs.Runs.{Run, is_label, seen}
+use Rattle.simulation.specs.Keeps.{Follows, IsSound, IsTidy, IsKept, AllNamed, KeepsTidy, EachKeeps, last_of, IsNthPass, ReachesNoMore}
 use Rattle.simulation.specs.Words.{HasWords, HasMade, IsCharged, Affords, Any, ReachIsPaid, MakingIsPaid}
 use Rattle.simulation.proofs.Seen.{visible_of}
-use Rattle.simulation.proofs.Compose.{keeps_refl, keeps_trans}
+use Rattle.simulation.proofs.Compose.{keeps_trans}
 use Rattle.simulation.proofs.Nth.{nth_entry, nth_one}
 use Rattle.simulation.proofs.Words.{reached_words, made_words}
 

@@ -1,8 +1,8 @@
 -- Forward simulation: each step of a is answered by steps of b, or by none while a wait falls.
-use Rattle.std.proofs.Common.{◌≡◌, ◌≢◌, ℕ, suc, ◌+◌, ◌<◌, ◌≤◌, List, Some, None, Bool, true, IsTrue, ◌⊎◌, inl, inr, refl, sym, ap, ◌∙◌, subst, arith, lt-suc_self, ⊎_elim}
+use Rattle.std.proofs.Common.{◌≡◌, ◌≢◌, ℕ, suc, ◌+◌, ◌<◌, ◌≤◌, List, Some, None, Bool, true, IsTrue, ◌⊎◌, inl, inr, refl, ◌∙◌, arith, lt-suc_self, ⊎_elim}
 use Rattle.smlc_base.specs.declared.point.Point.{Point}
 use Rattle.smlc_base.specs.declared.point.PointKind.TheVariants.{Eq}
-use Rattle.simulation.specs.Blocks.{Block, IsPrefix}
+use Rattle.simulation.specs.Blocks.{IsPrefix}
 use Rattle.simulation.specs.Runs.{Arena, is_label, times, visible}
 use Rattle.simulation.specs.Keeps.{AllNamed, HasTidyReach, IsSound, IsKept}
 use Rattle.simulation.specs.Machines.{Machine, state_at, run_from, IsLive, SteadyAt, IsSteady}

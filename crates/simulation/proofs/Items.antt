@@ -1,5 +1,5 @@
 -- The map between two memories that show stores of items of any types.
-use Rattle.std.proofs.Common.{map, slice_get, ◌≡◌, ◌≢◌, ℕ, ◌<◌, List, [], ◌∷◌, length, Some, ◌⊎◌, inl, inr, refl, sym, ap, ◌∙◌, subst, subst₂, arith, ⊎_elim}
+use Rattle.std.proofs.Common.{map, slice_get, ◌≡◌, ℕ, ◌<◌, List, length, Some, inr, sym, ap, ◌∙◌, subst, subst₂, arith, ⊎_elim}
 use Rattle.std.proofs.lemmas.List.{length-map}
 use Rattle.simulation.specs.Blocks.{Block, IsAmong, StandsAt, Reach, AreOfOneSort, IsCounted, IsLike, Embeds}
 use Rattle.simulation.proofs.Heaps.{IsUncounted, counted_cases, Through, through_cases, LeadsFrom, IsHeapMap, heap_reaches, stands_map, stands_of}

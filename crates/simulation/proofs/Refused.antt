@@ -1,7 +1,6 @@
 -- What a pass keeps refuses wrong answers.
-use Rattle.std.proofs.Common.{◌≡◌, ◌≢◌, ℕ, List, Some, Bool, true, false, ◌⊎◌, inl, inr, sym, ap, ◌∙◌, subst}
-use Rattle.simulation.specs.Blocks.{Block, Datum}
-use Rattle.simulation.specs.Runs.{Run, Going}
+use Rattle.std.proofs.Common.{◌≡◌, true, false, inl, inr, sym, ◌∙◌}
+use Rattle.simulation.specs.Runs.{Run}
 use Rattle.simulation.specs.Keeps.{IsKept}
 use Rattle.simulation.specs.Refused.{LosesOutput, NeverEnds, EntersTooOften, KeepsTooMuch, MakesAnother, LeavesUnnamed}
 use Rattle.simulation.proofs.Nth.{nth_entry}

@@ -1,7 +1,7 @@
 -- Two machines that show the same memory and roots: what a simulation owes follows, if the argument's records are in order.
-use Rattle.std.proofs.Common.{◌≡◌, ℕ, List, Option, Some, None, Bool, true, false, refl, sym, ap, ◌∙◌, subst, subst₂}
+use Rattle.std.proofs.Common.{◌≡◌, ℕ, List, Some, None, true, false, sym, ap, ◌∙◌, subst, subst₂}
 use Rattle.smlc_base.specs.declared.point.Point.{Point}
-use Rattle.simulation.specs.Blocks.{Block, Reach, Embeds}
+use Rattle.simulation.specs.Blocks.{Reach, Embeds}
 use Rattle.simulation.specs.Runs.{is_label, visible}
 use Rattle.simulation.specs.Keeps.{AllNamed, HasTidyReach, IsTidy}
 use Rattle.simulation.specs.Machines.{Machine, state_at, pass_of, run_from}

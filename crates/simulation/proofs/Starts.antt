@@ -1,5 +1,5 @@
 -- A simulation may begin after steps that b does alone, as a program's first instructions do.
-use Rattle.std.proofs.Common.{◌≡◌, ℕ, suc, ◌<◌, List, Bool, ◌⊎◌, inr, lt-suc_self}
+use Rattle.std.proofs.Common.{◌≡◌, ℕ, suc, List, Bool, inr, lt-suc_self}
 use Rattle.smlc_base.specs.declared.point.Point.{Point}
 use Rattle.simulation.specs.Keeps.{AllNamed}
 use Rattle.simulation.specs.Machines.{Machine}

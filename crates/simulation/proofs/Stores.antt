@@ -1,10 +1,10 @@
 -- Laws of machines that work on a list of items: none takes anything back, and class records stay named.
-use Rattle.std.proofs.Common.{◌≡◌, ◌≢◌, ℕ, zero, suc, ◌+◌, ◌<◌, List, [], ◌∷◌, ◌++◌, map, set, length, Option, Some, None, slice_get, Bool, true, false, cond, ◌&&◌, ◌==◌, ◌⊎◌, inl, inr, refl, sym, ap, ◌∙◌, subst, arith, ⊎_elim, eqb-true, append-nil}
+use Rattle.std.proofs.Common.{◌≡◌, ◌≢◌, ℕ, ◌+◌, ◌<◌, List, [], ◌∷◌, ◌++◌, map, set, length, Option, Some, None, slice_get, Bool, true, false, cond, ◌&&◌, ◌==◌, refl, sym, ap, ◌∙◌, subst, arith, ⊎_elim, eqb-true, append-nil}
 use Rattle.smlc_base.specs.declared.point.Point.{Point}
 use Rattle.simulation.specs.Blocks.{Kind, Closure, Frame, Datum, ClassRecord, SpillRecord, Inside, Block, IsAmong, IsPrefix, StandsAt, Grows}
-use Rattle.simulation.specs.Keeps.{AllNamed, IsNamedBy, HasTidyReach, IsTidy}
-use Rattle.simulation.specs.Machines.{Machine, state_at, run_from, IsSteady}
-use Rattle.simulation.specs.Stores.{Effect, Append, Put, Act, StoreMachine, Configuration, is_datum, may_replace, replaced, affected, affected_on, all_affected, configured, wrote, acted, machine_of}
+use Rattle.simulation.specs.Keeps.{AllNamed, HasTidyReach, IsTidy}
+use Rattle.simulation.specs.Machines.{state_at, run_from, IsSteady}
+use Rattle.simulation.specs.Stores.{Effect, Append, Put, Act, StoreMachine, Configuration, is_datum, may_replace, replaced, affected, affected_on, all_affected, configured, wrote, acted, puts, machine_of}
 use Rattle.simulation.proofs.Blocks.{prefix_refl, grows_refl, grows_trans}
 use Rattle.simulation.proofs.Heaps.{eq_cases, stands_map, stands_of}
 use Rattle.simulation.proofs.Lists.{both_true, some_eq, get_append, get_split, get_past, get_set_same, get_set_other}
@@ -127,6 +127,10 @@ store_steady M s t e = acted_steady M.view s.out s.store (M.act s.control s.stor
 -- a datum gives way to a datum of its length
 pub put_done : {X : Type 0} (view : X → Block) (xs : List X) (a : ℕ) (x y : X) → slice_get xs a ≡ Some x → may_replace (view x) (view y) ≡ true → affected view xs (Put a y) ≡ Some (set xs a y)
 put_done view xs a x y g m = ap (replaced view xs a y) g ∙ ap (λ b. cond b (Some (set xs a y)) None) m
+
+-- so goes a step that puts it
+pub puts_done : {C X : Type 0} (view : X → Block) (c : C) (out : List ℕ) (xs : List X) (a : ℕ) (x y : X) → slice_get xs a ≡ Some x → may_replace (view x) (view y) ≡ true → acted view out xs (puts c a y) ≡ Some (record { control = c; out = out; store = set xs a y })
+puts_done view c out xs a x y g m = ap (configured c out) (put_done view xs a x y g m)
 
 -- ---- Languages without records
 

@@ -1,8 +1,8 @@
 -- Wrong answers of a pass: what each shows that a right one can't.
-use Rattle.std.specs.Prelude.{◌≡◌, ◌≢◌, ℕ, suc, List, Some, true}
+use Rattle.std.specs.Prelude.{◌≡◌, ◌≢◌, ℕ, true}
 use Rattle.smlc_base.specs.declared.point.Point.{Point}
 use Rattle.simulation.specs.Blocks.{Block, Datum, ClassRecord, StandsAt, Reach, IsCounted, IsLike}
-use Rattle.simulation.specs.Runs.{Run, Going, is_label, visible, seen}
+use Rattle.simulation.specs.Runs.{Run, Going, is_label}
 use Rattle.simulation.specs.Keeps.{IsNthPass, IsNamedBy}
 
 -- an output of a never comes in b
