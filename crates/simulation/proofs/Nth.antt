@@ -1,5 +1,5 @@
 -- The same passes in the same order are the same number of passes of each point.
-use Rattle.std.proofs.Common.{◌≡◌, ℕ, zero, suc, ◌+◌, List, Option, Some, None, Bool, true, false, cond, ◌&&◌, ◌==◌, refl, sym, ap, ap₂, ◌∙◌, subst, arith, eqb-true, eq-eqb, ◌<◌, ◌≤◌, le_refl, ⊎_elim}
+use Rattle.std.proofs.Common.{length, length-append, ◌≡◌, ℕ, zero, suc, ◌+◌, List, Option, Some, None, Bool, true, false, cond, ◌&&◌, ◌==◌, refl, sym, ap, ap₂, ◌∙◌, subst, arith, eqb-true, eq-eqb, ◌<◌, ◌≤◌, le_refl, ⊎_elim}
 use Rattle.std.proofs.lemmas.Bool.{cases_lt}
 use Rattle.simulation.proofs.Simulation.{from_on}
 use Rattle.std.proofs.Common.{◌⊎◌, inl, inr, IsTrue}
@@ -43,12 +43,18 @@ times-seen labels p r l (suc n) =
     times-append p (seen labels r n) (listed (visible labels (r.pass n)))
     ∙ ap₂ (λ x y. x + y) (times-seen labels p r l n) (listed_times labels p (r.pass n) l)
 
+-- steps with the same passes before them pass a point equally often before
+nth_at : (full : Bool) (a b : Run) (p : Point) → is_label b.labels p ≡ true → (i n m : ℕ) → IsNthPass b p i n → visible b.labels (a.pass m) ≡ Some p → seen b.labels a m ≡ seen b.labels b n → IsNthPass a p i m
+nth_at full a b p l i n m h v e = record {
+  passes = visible_some b.labels (a.pass m) p v;
+  after = sym (times-seen b.labels p a l m) ∙ ap (times p) e ∙ times-seen b.labels p b l n ∙ h.after;
+}
+
 -- at the i-th entry of each label of b, a passes the point for the i-th time
 pub nth_entry : (full : Bool) (a b : Run) → Follows full a b → (p : Point) → is_label b.labels p ≡ true → (i n : ℕ) → IsNthPass b p i n → (m : ℕ) × IsNthPass a p i m × ReachesNoMore a m b n
 nth_entry full a b f p l i n h =
     let e = f.entered n p (visible_of b.labels (b.pass n) p h.passes l) in
-    let k = sym (times-seen b.labels p a l e.0) ∙ ap (times p) e.2 ∙ times-seen b.labels p b l n ∙ h.after in
-    (e.0, record { passes = visible_some b.labels (a.pass e.0) p e.1; after = k }, e.3)
+    (e.0, nth_at full a b p l i n e.0 h e.1 e.2, e.3)
 
 -- and each such pass of a is entered
 pub nth_pass : (full : Bool) (a b : Run) → Follows full a b → (p : Point) → is_label b.labels p ≡ true → (i m : ℕ) → IsNthPass a p i m → ((n : ℕ) × IsNthPass b p i n) ⊎ (IsTrue full × ((n : ℕ) × (b.end n ≡ Arena)))
@@ -57,9 +63,6 @@ nth_pass full a b f p l i m h =
       | inl e ↦ inl (e.0, record { passes = visible_some b.labels (b.pass e.0) p e.1; after = sym (times-seen b.labels p b l e.0) ∙ ap (times p) e.2 ∙ times-seen b.labels p a l m ∙ h.after })
       | inr e ↦ inr e
     ]
-
-pub entries_are_passes : (full : Bool) (a b : Run) → Follows full a b → EntriesArePasses full a b
-entries_are_passes full a b f = record { entered = λ p i n l h. nth_entry full a b f p l i n h; passed = λ p i m l h. nth_pass full a b f p l i m h }
 
 -- ---- The i-th pass is one step
 
@@ -96,3 +99,36 @@ nth_one p r i m n h k =
     ⊎_elim (λ (l : m < n). absurd (not_before p r i m n h k l))
     (λ (l : n ≤ m). ⊎_elim (λ (g : n < m). absurd (not_before p r i n m k h g)) (λ (g : m ≤ n). omega arith) (cases_lt n m))
     (cases_lt m n)
+
+-- ---- The order of entries
+
+seen_grows : (labels : List Point) (r : Run) (m n : ℕ) → m ≤ n → length (seen labels r m) ≤ length (seen labels r n)
+seen_grows labels r m n =
+    from_on (λ n. length (seen labels r m) ≤ length (seen labels r n)) m (le_refl (length (seen labels r m))) (λ n l h.
+    let e = length-append (seen labels r n) (listed (visible labels (r.pass n))) in omega arith) n
+
+seen_counts : (labels : List Point) (r : Run) (n : ℕ) (p : Point) → visible labels (r.pass n) ≡ Some p → length (seen labels r (suc n)) ≡ suc (length (seen labels r n))
+seen_counts labels r n p e =
+    let f = length-append (seen labels r n) (listed (visible labels (r.pass n))) in
+    let g : length (listed (visible labels (r.pass n))) ≡ 1 = ap (λ o. length (listed o)) e in
+    omega arith
+
+entries_in_order : (full : Bool) (a b : Run) → Follows full a b → (p q : Point) (i j n k m l : ℕ) → is_label b.labels p ≡ true → is_label b.labels q ≡ true → IsNthPass b p i n → IsNthPass b q j k → IsNthPass a p i m → IsNthPass a q j l → n < k → m < l
+entries_in_order full a b f p q i j n k m l lp lq bn bk am al less =
+    let vn = visible_of b.labels (b.pass n) p bn.passes lp in
+    let x = f.entered n p vn in
+    let y = f.entered k q (visible_of b.labels (b.pass k) q bk.passes lq) in
+    let xm : x.0 ≡ m = nth_one p a i x.0 m (nth_at full a b p lp i n x.0 bn x.1 x.2) am in
+    let yl : y.0 ≡ l = nth_one q a j y.0 l (nth_at full a b q lq j k y.0 bk y.1 y.2) al in
+    let c = seen_counts b.labels b n p vn in
+    let g = seen_grows b.labels b (suc n) k less in
+    let ex : length (seen b.labels a m) ≡ length (seen b.labels b n) = ap (λ t. length (seen b.labels a t)) (sym xm) ∙ ap length x.2 in
+    let ey : length (seen b.labels a l) ≡ length (seen b.labels b k) = ap (λ t. length (seen b.labels a t)) (sym yl) ∙ ap length y.2 in
+    ⊎_elim (λ (h : m < l). h) (λ (h : l ≤ m). let d = seen_grows b.labels a l m h in absurd (omega arith)) (cases_lt m l)
+
+pub entries_are_passes : (full : Bool) (a b : Run) → Follows full a b → EntriesArePasses full a b
+entries_are_passes full a b f = record {
+  entered = λ p i n l h. nth_entry full a b f p l i n h;
+  passed = λ p i m l h. nth_pass full a b f p l i m h;
+  in_order = entries_in_order full a b f;
+}

@@ -94,8 +94,9 @@ pub record IsNthPass (r : Run) (p : Point) (i n : ℕ) : Type 0 where
   pub passes : r.pass n ≡ Some p
   pub after : passes_before p r n ≡ i
 
--- At the i-th entry of each label of b, a passes its point for the i-th time, where b can reach no more; and where b may not end
--- for want of arena, each such pass of a is entered.
+-- At the i-th entry of each label of b, a passes its point for the i-th time, where b can reach no more; the entries come in the
+-- order of those passes; and each such pass of a is entered, unless b may end for want of arena and does.
 pub record EntriesArePasses (full : Bool) (a b : Run) : Type 0 where
   pub entered : (p : Point) (i n : ℕ) → is_label b.labels p ≡ true → IsNthPass b p i n → (m : ℕ) × IsNthPass a p i m × ReachesNoMore a m b n
   pub passed : (p : Point) (i m : ℕ) → is_label b.labels p ≡ true → IsNthPass a p i m → ((n : ℕ) × IsNthPass b p i n) ⊎ (IsTrue full × ((n : ℕ) × (b.end n ≡ Arena)))
+  pub in_order : (p q : Point) (i j n k m l : ℕ) → is_label b.labels p ≡ true → is_label b.labels q ≡ true → IsNthPass b p i n → IsNthPass b q j k → IsNthPass a p i m → IsNthPass a q j l → n < k → m < l
