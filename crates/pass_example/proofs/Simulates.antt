@@ -1,5 +1,5 @@
 -- The machine with closures keeps the machine with frames.
-use Rattle.std.proofs.Common.{map, slice_get, ◌≡◌, ◌≢◌, ℕ, suc, ◌≤◌, List, [], ◌∷◌, ◌++◌, length, Some, None, Bool, true, false, cond, ◌||◌, inl, inr, refl, arith}
+use Rattle.std.proofs.Common.{map, slice_get, ◌≡◌, ◌≢◌, ℕ, suc, ◌≤◌, List, [], ◌∷◌, ◌++◌, length, Some, None, Bool, true, false, cond, ◌||◌, refl, arith}
 use Rattle.smlc_base.specs.declared.point.Point.{Point}
 use Rattle.smlc_base.specs.declared.point.PointKind.TheVariants.{Eq}
 use Rattle.simulation.specs.Runs.{is_label, is_point, times}
@@ -9,14 +9,14 @@ use Rattle.simulation.specs.Stores.{Configuration, machine_of}
 use Rattle.simulation.proofs.Heaps.{straight}
 use Rattle.simulation.proofs.Items.{led, roots_reach}
 use Rattle.simulation.proofs.Lists.{some_eq, get_last}
-use Rattle.simulation.proofs.Machines.{stay, walk, Unseen}
-use Rattle.simulation.proofs.Forward.{Ends, now, Shows, Enters, Answer, silent, together, IsForward, live_known, forward_keeps}
+use Rattle.simulation.proofs.Machines.{stay, Unseen}
+use Rattle.simulation.proofs.Forward.{Ends, now, Shows, Enters, Answer, silent, stays_on, goes_one, together, IsForward, live_known, forward_keeps}
 use Rattle.simulation.proofs.Stores.{store_steady}
 use Rattle.pass_example.specs.declared.Op.{Op}
 use Rattle.pass_example.specs.declared.Op.TheVariants.{Say, Skip}
 use Rattle.pass_example.specs.declared.Instr.TheVariants.{Emit}
 use Rattle.pass_example.specs.Frames.{outer, inner, Held, held, held_block, Doing, Do, Pushed, Return, frames, run_ops}
-use Rattle.pass_example.specs.Closures.{Thing, Class, Code, thing_block, Running, Run_on, Enter, closures, run_instrs}
+use Rattle.pass_example.specs.Closures.{Thing, thing_block, Running, Run_on, Enter, closures, run_instrs}
 use Rattle.pass_example.specs.Lower.{lowered}
 use Rattle.pass_example.proofs.Relation.{StandFor, Heap, at_code, heap_map, heap_named, heap_tidy, heap_frames, more_frames, more_things, more_f, new_stands, heap_more}
 
@@ -62,25 +62,16 @@ step : (w : ℕ) (s s' : Configuration Doing Held) (t : Configuration Running Th
 step w s s' t v (doing [] top last out xs ys f h r) e = absurd (cc)
 step w s s' t v (doing (Skip ∷ left) top last out xs ys f h r) e =
     some_eq (λ z. Answer false A B (inner ∷ []) Quiet (λ v u. Related v z u) w s t) _ s' e
-    (silent refl (record { steps = 0; wait = suc (length left); to = _; walk = stay _; then = doing left top last out xs ys f h r }) (inr (omega arith)))
+    (silent refl (stays_on B Quiet _ w (suc (length left)) t (omega arith) (doing left top last out xs ys f h r)))
 step w s s' t v (doing (Say n ∷ left) top last out xs ys f h r) e =
+    let new : List Held = held outer top ∷ [] in
     some_eq (λ z. Answer false A B (inner ∷ []) Quiet (λ v u. Related v z u) w s t) _ s' e
-    (silent refl (record {
-      steps = 0;
-      wait = suc (length left);
-      to = _;
-      walk = stay _;
-      then = pushed n (length xs) left top last out (xs ++ held outer top ∷ []) ys f (heap_frames f xs (held outer top ∷ []) ys h) (get_last xs (held outer top)) r;
-    }) (inr (omega arith)))
+    (silent refl (stays_on B Quiet _ w (suc (length left)) t (omega arith) (pushed n (length xs) left top last out (xs ++ new) ys f (heap_frames f xs new ys h) (get_last xs (held outer top)) r)))
 step w s s' t v (pushed n o left under last out xs ys f h g r) e =
+    let b = suc (length ys) in
     some_eq (λ z. Answer false A B (inner ∷ []) Quiet (λ v u. Related v z u) w s t) _ s' e
-    (silent refl (record {
-      steps = 1;
-      wait = 0;
-      to = at (Enter n (lowered left) (suc (length ys) ∷ [])) out (ys ++ Class last ∷ Code (length ys) ∷ []);
-      walk = walk 0 _ _ _ refl refl (stay _);
-      then = returning n left (length xs ∷ []) (suc (length ys) ∷ []) out (more_frames f xs ys o last under h g r) (more_things f xs ys o last under h g r) (more_f f xs ys o last under h g r) (heap_more f xs ys o last under h g r) (new_stands f xs ys o last under h g r);
-    }) (inl (omega arith)))
+    (silent refl (goes_one B Quiet _ w 0 t (at (Enter n (lowered left) (b ∷ [])) out (more_things f xs ys o last under h g r)) refl refl
+    (returning n left (length xs ∷ []) (b ∷ []) out (more_frames f xs ys o last under h g r) (more_things f xs ys o last under h g r) (more_f f xs ys o last under h g r) (heap_more f xs ys o last under h g r) (new_stands f xs ys o last under h g r))))
 step w s s' t v (returning n left top last out xs ys f h r) e =
     some_eq (λ z. Answer false A B (inner ∷ []) Quiet (λ v u. Related v z u) w s t) _ s' e
     (together (record {

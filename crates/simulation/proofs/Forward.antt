@@ -24,6 +24,32 @@ pub record Onward {T : Type 0} (B : Machine T) (Quiet : T → Type 0) (Then : �
   pub walk : Walks B Quiet steps t to
   pub then : Then wait to
 
+-- so b goes on with at least one step, or with a wait below the limit
+pub record Goes {T : Type 0} (B : Machine T) (Quiet : T → Type 0) (Then : ℕ → T → Type 0) (limit : ℕ) (t : T) : Type 0 where
+  pub steps : ℕ
+  pub wait : ℕ
+  pub to : T
+  pub walk : Walks B Quiet steps t to
+  pub moves : (0 < steps) ⊎ (wait < limit)
+  pub then : Then wait to
+
+abbrev pub onward : {T : Type 0} (B : Machine T) (Quiet : T → Type 0) (Then : ℕ → T → Type 0) (limit : ℕ) (t : T) → Goes B Quiet Then limit t → Onward B Quiet Then t
+onward B Quiet Then limit t g = record { steps = g.steps; wait = g.wait; to = g.to; walk = g.walk; then = g.then }
+
+-- b stays where it is
+pub stays_on : {T : Type 0} (B : Machine T) (Quiet : T → Type 0) (Then : ℕ → T → Type 0) (limit wait : ℕ) (t : T) → wait < limit → Then wait t → Goes B Quiet Then limit t
+stays_on B Quiet Then limit wait t l h = record { steps = 0; wait = wait; to = t; walk = stay t; moves = inr l; then = h }
+
+-- b does one step
+pub goes_one : {T : Type 0} (B : Machine T) (Quiet : T → Type 0) (Then : ℕ → T → Type 0) (limit wait : ℕ) (t u : T) → B.step t ≡ Some u → Quiet t → Then wait u → Goes B Quiet Then limit t
+goes_one B Quiet Then limit wait t u e q h =
+    record { steps = 1; wait = wait; to = u; walk = walk 0 t u u e q (stay u); moves = inl (omega arith); then = h }
+
+-- one step, and then on
+pub goes_first : {T : Type 0} (B : Machine T) (Quiet : T → Type 0) (Then : ℕ → T → Type 0) (limit other : ℕ) (t u : T) → B.step t ≡ Some u → Quiet t → Goes B Quiet Then other u → Goes B Quiet Then limit t
+goes_first B Quiet Then limit other t u e q g =
+    record { steps = suc g.steps; wait = g.wait; to = g.to; walk = walk g.steps t u g.to e q g.walk; moves = inl (omega arith); then = g.then }
+
 -- what is shown where both pass a point
 pub record Shows {S T : Type 0} (A : Machine S) (B : Machine T) (s : S) (t : T) : Type 0 where
   pub out : B.out t ≡ A.out s
@@ -56,7 +82,7 @@ pub record Full {S T : Type 0} (A : Machine S) (B : Machine T) (Quiet : T → Ty
 -- how b answers a step of a from s
 pub data Answer {S T : Type 0} (full : Bool) (A : Machine S) (B : Machine T) (labels : List Point) (Quiet : T → Type 0) (Then : ℕ → T → Type 0) (w : ℕ) (s : S) (t : T) : Type 0 where
   -- nothing is passed, and b goes on, or the wait falls
-  silent : Unseen A labels s → (g : Onward B Quiet Then t) → (0 < g.steps) ⊎ (g.wait < w) → Answer full A B labels Quiet Then w s t
+  silent : Unseen A labels s → Goes B Quiet Then w t → Answer full A B labels Quiet Then w s t
   -- both go one step
   together : Together A B labels Quiet Then s t → Answer full A B labels Quiet Then w s t
   -- b comes first to a state of its own, from which both go one step
@@ -117,7 +143,7 @@ module _ {S T : Type 0} (full : Bool) (A : Machine S) (B : Machine T) (labels : 
       (option_cases (visible labels (A.pass s)))
 
   step_move : (w : ℕ) (s s' : S) (t : T) → A.step s ≡ Some s' → Shows A B s t → Answer full A B labels Quiet (λ v u. R v s' u) w s t → StateMove full A B labels R w s t
-  step_move w s s' t e h (silent n g m) =
+  step_move w s s' t e h (silent n g) =
       both_go (record {
         c = 1;
         d = g.steps;
@@ -127,7 +153,7 @@ module _ {S T : Type 0} (full : Bool) (A : Machine S) (B : Machine T) (labels : 
         walk_a = walk 0 s s' s' e (n, refl) (stay s');
         walk_b = calm_walk g.steps t g.to g.walk;
         then = g.then;
-      }) (⊎_elim (λ (q : 0 < g.steps). inl (lt-suc_self 0, q)) (λ (q : g.wait < w). inr q) m)
+      }) (⊎_elim (λ (q : 0 < g.steps). inl (lt-suc_self 0, q)) (λ (q : g.wait < w). inr q) g.moves)
   step_move w s s' t e h (together g) = together_move w 0 s s' t t e (stay t) h g
   step_move w s s' t e h (after d u v k g) = together_move w d s s' t u e v k g
   step_move w s s' t e h (fills may g) =
