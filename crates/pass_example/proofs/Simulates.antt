@@ -16,7 +16,7 @@ use Rattle.pass_example.specs.declared.Op.{Op}
 use Rattle.pass_example.specs.declared.Op.TheVariants.{Say, Skip}
 use Rattle.pass_example.specs.declared.Instr.TheVariants.{Emit}
 use Rattle.pass_example.specs.Frames.{outer, inner, Held, held, held_block, Doing, Do, Pushed, Return, frames, run_ops}
-use Rattle.pass_example.specs.Closures.{Thing, thing_block, Running, Run_on, Enter, closures, run_instrs}
+use Rattle.pass_example.specs.Closures.{Thing, thing_block, Running, RunOn, Enter, closures, run_instrs}
 use Rattle.pass_example.specs.Lower.{lowered}
 use Rattle.pass_example.proofs.Relation.{StandFor, Heap, at_code, heap_map, heap_named, heap_tidy, heap_frames, more_frames, more_things, more_f, new_stands, heap_more}
 
@@ -31,8 +31,8 @@ at c out store = record { control = c; out = out; store = store }
 
 -- Both have written the same, and the store of closures lies in that of frames. The number says how often closures may wait.
 data Related : ℕ → Configuration Doing Held → Configuration Running Thing → Type 0 where
-  doing : (left : List Op) (top last out : List ℕ) (xs : List Held) (ys : List Thing) (f : ℕ → ℕ) → Heap f xs ys → StandFor f ys last top → Related (suc (length left)) (at (Do left top) out xs) (at (Run_on (lowered left) last) out ys)
-  pushed : (n o : ℕ) (left : List Op) (under last out : List ℕ) (xs : List Held) (ys : List Thing) (f : ℕ → ℕ) → Heap f xs ys → slice_get xs o ≡ Some (held outer under) → StandFor f ys last under → Related (suc (length left)) (at (Pushed n left (o ∷ [])) out xs) (at (Run_on (Emit n ∷ lowered left) last) out ys)
+  doing : (left : List Op) (top last out : List ℕ) (xs : List Held) (ys : List Thing) (f : ℕ → ℕ) → Heap f xs ys → StandFor f ys last top → Related (suc (length left)) (at (Do left top) out xs) (at (RunOn (lowered left) last) out ys)
+  pushed : (n o : ℕ) (left : List Op) (under last out : List ℕ) (xs : List Held) (ys : List Thing) (f : ℕ → ℕ) → Heap f xs ys → slice_get xs o ≡ Some (held outer under) → StandFor f ys last under → Related (suc (length left)) (at (Pushed n left (o ∷ [])) out xs) (at (RunOn (Emit n ∷ lowered left) last) out ys)
   returning : (n : ℕ) (left : List Op) (top last out : List ℕ) (xs : List Held) (ys : List Thing) (f : ℕ → ℕ) → Heap f xs ys → StandFor f ys last top → Related 0 (at (Return n left top) out xs) (at (Enter n (lowered left) last) out ys)
 
 abbrev Quiet : Configuration Running Thing → Type 0
@@ -75,7 +75,7 @@ step w s s' t v (pushed n o left under last out xs ys f h g r) e =
 step w s s' t v (returning n left top last out xs ys f h r) e =
     some_eq (λ z. Answer false A B (inner ∷ []) Quiet (λ v u. Related v z u) w s t) _ s' e
     (together (record {
-      next = at (Run_on (lowered left) last) (out ++ n ∷ []) ys;
+      next = at (RunOn (lowered left) last) (out ++ n ∷ []) ys;
       passes = refl;
       step = refl;
       steady = store_steady closures t;
@@ -105,5 +105,5 @@ once p k = one (is_point inner p)
 
 pub lowered_keeps : (ops : List Op) → Keeps (run_ops ops) (run_instrs (lowered ops))
 lowered_keeps ops sound =
-    forward_keeps false A B (outer ∷ inner ∷ []) (inner ∷ []) (at (Do ops []) [] []) (at (Run_on (lowered ops) []) [] []) (IsLive A) Quiet Related
+    forward_keeps false A B (outer ∷ inner ∷ []) (inner ∷ []) (at (Do ops []) [] []) (at (RunOn (lowered ops) []) [] []) (IsLive A) Quiet Related
     (live_known A (outer ∷ inner ∷ []) (at (Do ops []) [] [])) forward (store_steady frames) fewer once (suc (length ops)) (doing ops [] [] [] [] [] (λ a. a) start (λ d m. absurd m)) sound

@@ -21,29 +21,29 @@ thing_block (Code class) = record { kind = Closure inner; words = 2; fields = cl
 
 pub data Running : Type 0 where
   -- the instructions that are left, and the last closure if there is one
-  Run_on : (left : List Instr) (top : List ℕ) → Running
+  RunOn : (left : List Instr) (top : List ℕ) → Running
   -- the closure is entered
   Enter : (n : ℕ) (left : List Instr) (top : List ℕ) → Running
 
 abbrev pub act_closures : Running → List Thing → Option (Act Running Thing)
-act_closures (Run_on [] top) things = None
-act_closures (Run_on (Emit n ∷ left) top) things = makes (Enter n left (suc (length things) ∷ [])) (Class top ∷ Code (length things) ∷ [])
-act_closures (Enter n left top) things = tells (Run_on left top) (n ∷ [])
+act_closures (RunOn [] top) things = None
+act_closures (RunOn (Emit n ∷ left) top) things = makes (Enter n left (suc (length things) ∷ [])) (Class top ∷ Code (length things) ∷ [])
+act_closures (Enter n left top) things = tells (RunOn left top) (n ∷ [])
 
 abbrev pub end_closures : Running → End
-end_closures (Run_on left top) = Normal
+end_closures (RunOn left top) = Normal
 end_closures (Enter n left top) = Stuck
 
 abbrev pub pass_closures : Running → Option Point
-pass_closures (Run_on left top) = None
+pass_closures (RunOn left top) = None
 pass_closures (Enter n left top) = Some inner
 
 abbrev pub last_of : Running → List ℕ
-last_of (Run_on left top) = top
+last_of (RunOn left top) = top
 last_of (Enter n left top) = top
 
 abbrev pub closures : StoreMachine Running Thing
 closures = record { act = act_closures; end = λ c s. end_closures c; pass = λ c s. pass_closures c; roots = λ c s. last_of c; view = thing_block }
 
 abbrev pub run_instrs : List Instr → Run
-run_instrs code = run_from (machine_of closures) (inner ∷ []) (record { control = Run_on code []; out = []; store = [] })
+run_instrs code = run_from (machine_of closures) (inner ∷ []) (record { control = RunOn code []; out = []; store = [] })

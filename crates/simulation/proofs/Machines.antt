@@ -177,7 +177,7 @@ pub record Walked {S T : Type 0} (A : Machine S) (B : Machine T) (labels : List 
   pub walk_b : Walks B (Calm B labels) d t to_b
 
 -- a goes on by c steps and b by d, to related states
-pub record Going_on {S T : Type 0} (A : Machine S) (B : Machine T) (labels : List Point) (R : ℕ → S → T → Type 0) (out : List ℕ) (s : S) (t : T) : Type 0 where
+pub record GoesOn {S T : Type 0} (A : Machine S) (B : Machine T) (labels : List Point) (R : ℕ → S → T → Type 0) (out : List ℕ) (s : S) (t : T) : Type 0 where
   pub c : ℕ
   pub d : ℕ
   pub wait : ℕ
@@ -202,7 +202,7 @@ pub record Passing {S T : Type 0} (A : Machine S) (B : Machine T) (labels : List
   pub named : AllNamed (B.memory t)
   pub reaches : Reaches A s B t
   pub tidy : HasTidyReach (B.memory t) (B.roots t)
-  pub on : Going_on A B labels R (A.out s) next_a next_b
+  pub on : GoesOn A B labels R (A.out s) next_a next_b
 
 -- b ends for want of arena
 pub record Filling {S T : Type 0} (A : Machine S) (B : Machine T) (labels : List Point) (s : S) (t : T) : Type 0 where
@@ -220,7 +220,7 @@ pub record Filling {S T : Type 0} (A : Machine S) (B : Machine T) (labels : List
 -- What follows from related states. Before both end or pass, each may walk alone.
 pub data StateMove {S T : Type 0} (full : Bool) (A : Machine S) (B : Machine T) (labels : List Point) (R : ℕ → S → T → Type 0) (w : ℕ) (s : S) (t : T) : Type 0 where
   both_end : (h : Walked A B labels s t) → Ending A B h.to_a h.to_b → StateMove full A B labels R w s t
-  both_go : (g : Going_on A B labels R (A.out s) s t) → ((0 < g.c) × (0 < g.d)) ⊎ (g.wait < w) → StateMove full A B labels R w s t
+  both_go : (g : GoesOn A B labels R (A.out s) s t) → ((0 < g.c) × (0 < g.d)) ⊎ (g.wait < w) → StateMove full A B labels R w s t
   both_pass : (h : Walked A B labels s t) → Passing A B labels R h.to_a h.to_b → StateMove full A B labels R w s t
   b_fills : IsTrue full → Filling A B labels s t → StateMove full A B labels R w s t
 

@@ -6,7 +6,7 @@ use Rattle.simulation.specs.Keeps.{IsNamedBy, AllNamed, HasTidyReach}
 use Rattle.simulation.specs.Words.{IsDistinct, weight, kind_words, block_words, words_at, HasWords, HasMade, AreNamed, IsCharged, Affords}
 use Rattle.simulation.proofs.Lists.{among_left, among_right}
 use Rattle.simulation.proofs.Heaps.{IsUncounted, counted_cases}
-use Rattle.simulation.proofs.Weights.{weight_contained, weight_keys, weight-append, parted, weight_groups, weight_one, weight_zero}
+use Rattle.simulation.proofs.Weights.{weight_contained, weight_keys, weight-append, parted, weight_groups, weight_one, weight_zero, weight_shares}
 
 -- ---- The words of what lies one to one in another memory
 
@@ -367,3 +367,17 @@ words_one memory roots m n p q =
     let s = p.sum in
     let t = q.sum in
     omega arith
+
+-- The words of what is reached afford the charges, if each block has other blocks' words lent to it beside its own, each word once.
+pub affords_by_loans : (k : ℕ) (charge : Point → ℕ) (memory : List Block) (roots : List ℕ) (n : ℕ) (h : HasWords memory roots n) (lent : ℕ → List ℕ) → ((a : ℕ) → IsAmong a h.addresses → IsDistinct (lent a)) → ((a b c : ℕ) → IsAmong a h.addresses → IsAmong b h.addresses → IsAmong c (lent a) → IsAmong c (lent b) → a ≡ b) → ((a c : ℕ) → IsAmong a h.addresses → IsAmong c (lent a) → IsAmong c h.addresses) → ((a : ℕ) (x : Block) → IsAmong a h.addresses → StandsAt memory a x → x.kind ≡ Datum → x.words ≤ k * weight (words_at memory) (lent a)) → ((a : ℕ) (x : Block) → IsAmong a h.addresses → StandsAt memory a x → weight charge (points_of x.kind) ≤ k * weight (words_at memory) (lent a)) → Affords k charge memory (Reach memory roots) n
+affords_by_loans k charge memory roots n h lent distinct apart inside data_paid points_paid = record {
+  share = λ a. weight (words_at memory) (lent a);
+  addresses = h.addresses;
+  all = h.all;
+  datum = data_paid;
+  charges = points_paid;
+  sum =
+      let s = weight_shares (words_at memory) lent h.addresses h.addresses h.distinct distinct (λ a b c i j p q. apart a b c i j p q) inside in
+      let t = h.sum in
+      omega arith;
+}
