@@ -1,5 +1,5 @@
 -- Programs and bytes put one behind the other.
-use Rattle.std.proofs.Common.{◌≡◌, ℕ, zero, suc, ◌+◌, ◌*◌, ◌<◌, ◌≤◌, List, [], ◌∷◌, ◌++◌, length, get_or, take, drop, Option, Some, None, refl, ap, ◌∙◌, sym, subst, arith, append_assoc, add_assoc, length-append}
+use Rattle.std.proofs.Common.{◌≡◌, ℕ, zero, suc, ◌+◌, ◌*◌, ◌<◌, List, [], ◌∷◌, ◌++◌, length, get_or, take, drop, Option, Some, refl, ap, ◌∙◌, sym, arith, append_assoc, length-append}
 use Rattle.std.specs.Int.{w32, to_le_bytes}
 use Rattle.std.specs.Prelude.{slice_get}
 use Rattle.std.proofs.lemmas.List.{take_more}
@@ -51,7 +51,7 @@ layout_more places items i d here bytes more h c w e =
     let x = get_or items i d in
     let start : 0 + words (take i items) ≡ here = omega arith in
     let longer : code_from places 0 (take (i + 1) items) ≡ code_from places 0 (take i items) ++ code_at places here x =
-        ap (code_from places 0) (take_more items i d h) ∙ (code_from-append places 0 (take i items) (x ∷ []) ∙ (ap (λ n. code_from places 0 (take i items) ++ code_from places n (x ∷ [])) start ∙ ap (λ xs. code_from places 0 (take i items) ++ xs) (code_from-one places here x))) in
+    ap (code_from places 0) (take_more items i d h) ∙ (code_from-append places 0 (take i items) (x ∷ []) ∙ (ap (λ n. code_from places 0 (take i items) ++ code_from places n (x ∷ [])) start ∙ ap (λ xs. code_from places 0 (take i items) ++ xs) (code_from-one places here x))) in
     e ∙ (ap (λ bs. bs ++ bytes_of (code_at places here x)) w ∙ sym (ap bytes_of longer ∙ bytes_of-append (code_from places 0 (take i items)) (code_at places here x)))
 
 -- an item of a list, with what is before and behind it

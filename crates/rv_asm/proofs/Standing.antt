@@ -101,13 +101,13 @@ stands_by base code items places before after n (Plain i) r s p e l = holds_betw
 stands_by base code items places before after n (Jump label) r s p e l =
     let m = place_of places label in
     let h = here base code items places label r s in
-    let pair = pair_between code before (ins Auipc 31 0 0 (upper n m)) (ins Jalr 0 31 0 (lower n m)) after n e l (auipc_fits 31 n m (omega arith) h.near) (jalr_fits n m) in
+    let pair = pair_between code before (ins Auipc 31 0 0 (upper n m)) (ins Jalr 0 31 0 (lower n m)) after n e l (auipc_fits 31 n m (omega arith) h.near) (jalr_fits 0 31 n m (omega arith) (omega arith)) in
     let there : arrives (base + 4 * n) (upper n m) (lower n m) ≡ base + 4 * m = arrives_there base n m r.low p h.near in
     (upper n m, lower n m, pair.first, pair.second, h.address ∙ ap Some (sym (ap (λ t. t / 2 * 2) there ∙ even (base + 4 * m) (omega (arith, r.aligned)))))
 stands_by base code items places before after n (Address rd label) r s p e l =
     let m = place_of places label in
     let h = here base code items places label r s.1 in
-    let pair = pair_between code before (ins Auipc rd 0 0 (upper n m)) (ins Addi rd rd 0 (lower n m)) after n e l (auipc_fits rd n m s.0 h.near) (addi_fits rd n m s.0) in
+    let pair = pair_between code before (ins Auipc rd 0 0 (upper n m)) (ins Addi rd rd 0 (lower n m)) after n e l (auipc_fits rd n m s.0 h.near) (addi_fits rd rd n m s.0 s.0) in
     let there : arrives (base + 4 * n) (upper n m) (lower n m) ≡ base + 4 * m = arrives_there base n m r.low p h.near in
     (upper n m, lower n m, pair.first, pair.second, h.address ∙ ap Some (sym there))
 

@@ -1,5 +1,5 @@
 -- A program as bytes at an address.
-use Rattle.std.specs.Prelude.{ℕ, ◌+◌, ◌*◌, ◌/◌, ◌≤◌, ◌≡◌, ℤ, pos, List, [], ◌∷◌, ◌++◌, Option, Some, None, map, take, length, slice_get, slice_range}
+use Rattle.std.specs.Prelude.{ℕ, ◌+◌, ◌*◌, ◌/◌, ◌≤◌, ◌≡◌, ℤ, List, [], ◌∷◌, ◌++◌, Option, Some, None, map, take, length, slice_get, slice_range}
 use Rattle.std.specs.Int.{w32, to_le_bytes, from_le_bytes}
 use Rattle.rv_isa.specs.declared.word.Ins.{Ins}
 use Rattle.rv_isa.specs.declared.table.Op.TheVariants.{Auipc, Jalr, Addi}
@@ -13,7 +13,7 @@ use Rattle.rv_asm.specs.Program.{Program}
 
 -- ---- the instructions
 
--- the place of a label, counted in instructions; every label is bound
+-- the place of a label, counted in instructions; every label is bound where a program is laid out
 abbrev pub place_in : Option (Option ℕ) → ℕ
 place_in (Some (Some n)) = n
 place_in (Some None) = 0
@@ -28,6 +28,7 @@ code_at places here (Plain i) = i ∷ []
 code_at places here (Jump label) = ins Auipc 31 0 0 (upper here (place_of places label)) ∷ ins Jalr 0 31 0 (lower here (place_of places label)) ∷ []
 code_at places here (Address rd label) = ins Auipc rd 0 0 (upper here (place_of places label)) ∷ ins Addi rd rd 0 (lower here (place_of places label)) ∷ []
 
+-- the instructions of items, where so many stand before the first
 abbrev pub code_from : List (Option ℕ) → ℕ → List Item → List Ins
 code_from places here [] = []
 code_from places here (item ∷ items) = code_at places here item ++ code_from places (here + size item) items
@@ -36,16 +37,19 @@ code_from places here (item ∷ items) = code_at places here item ++ code_from p
 abbrev pub code_of : Program → List Ins
 code_of p = code_from p.places 0 p.items
 
+-- four bytes for each instruction, the lowest byte first
 abbrev pub bytes_of : List Ins → List ℕ
 bytes_of [] = []
 bytes_of (i ∷ is) = to_le_bytes w32 (word_of i) ++ bytes_of is
 
 -- ---- the addresses
 
+-- the address of a label; every label is bound where a program is laid out
 abbrev pub address : ℕ → Option ℕ → ℕ
 address base (Some n) = base + 4 * n
 address base None = base
 
+-- the address of each label
 abbrev pub addresses : ℕ → List (Option ℕ) → List ℕ
 addresses base places = map (address base) places
 

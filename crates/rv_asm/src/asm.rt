@@ -15,7 +15,7 @@ use std::alloc::Global;
 use std::marker::Model;
 
 /// A program in the making. Contracts see its items and, for each label, how many instructions stand
-/// before it, once it is bound.
+/// before it, once it is bound. Want of memory leaves it as it was.
 #[derive(Drop)]
 pub struct Asm {
     items: Vec<Item>,
@@ -91,7 +91,7 @@ impl Asm {
         self.push(Item::Jump(label))
     }
 
-    /// Puts last what makes the register the address of the label: AUIPC and ADDI.
+    /// Puts last what makes the register the address of the label: AUIPC and ADDI. x0 stays 0.
     pub fn address(&mut self, rd: u8, label: u32) -> Result<(), NoMemory>
         requires register { rd < 32 }
         requires made { IsMade self.old label }
@@ -109,7 +109,7 @@ impl Asm {
         self.places[label as usize] = Some(self.words);
     }
 
-    /// The program laid out at the address.
+    /// The program laid out at the address. It takes time in proportion to the program.
     pub fn finish(self, base: u64) -> Result<Code, NoMemory>
         requires { IsReady self base }
         ensures bytes { IfOk result (λ code. code.bytes ≡ bytes_of (code_of self)) }

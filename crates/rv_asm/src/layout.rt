@@ -77,11 +77,7 @@ fn write_item(
 }
 
 /// The bytes of the items.
-pub fn bytes_of(
-    alloc: Global,
-    items: &[Item],
-    places: &[Option<u64>],
-) -> Result<Vec<u8>, NoMemory>
+pub fn bytes_of(alloc: Global, items: &[Item], places: &[Option<u64>]) -> Result<Vec<u8>, NoMemory>
     requires sound { All (IsSound (length places.now)) items.now }
     requires bound { All IsSome places.now }
     requires placed { All (λ place. IfSome place IsNear) places.now }
@@ -98,11 +94,7 @@ pub fn bytes_of(
 }
 
 /// The addresses of the labels in code that begins at `base`.
-pub fn addresses(
-    alloc: Global,
-    base: u64,
-    places: &[Option<u64>],
-) -> Result<Vec<u64>, NoMemory>
+pub fn addresses(alloc: Global, base: u64, places: &[Option<u64>]) -> Result<Vec<u64>, NoMemory>
     requires bound { All IsSome places.now }
     requires placed { All (λ place. IfSome place IsNear) places.now }
     requires base { base ≤ 2 ^ 63 }

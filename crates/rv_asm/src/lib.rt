@@ -6,10 +6,12 @@
 pub mod asm;
 pub mod code;
 pub mod item;
-pub mod layout;
-pub mod pair;
+mod layout;
+mod pair;
 
 pub use asm::Asm;
 pub use code::Code;
 pub use item::Item;
 
+#[cfg(test)]
+mod tests;

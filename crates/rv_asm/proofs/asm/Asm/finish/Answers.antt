@@ -1,4 +1,4 @@
-use Rattle.std.proofs.Common.{◌≡◌, rules, arith}
+use Rattle.std.proofs.Common.{◌≡◌, rules}
 use Rattle.rv_asm.specs.Layout.{code_from, bytes_of, addresses}
 use Rattle.rv_asm.proofs.Standing.{finished}
 use Rattle.rv_asm.proofs.asm.Asm.finish.Goals as goal
