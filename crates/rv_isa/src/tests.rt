@@ -32,7 +32,7 @@ fn assembled(rt: HostRuntime) {
         (Ins::s_type(Op::Sh, 2, 11, 2), 0x00b11123), // sh x11, 2(x2)
         (Ins::s_type(Op::Sw, 2, 12, 31), 0x00c12fa3), // sw x12, 31(x2)
         (Ins::s_type(Op::Sd, 2, 13, 32), 0x02d13023), // sd x13, 32(x2)
-        (Ins::i_type(Op::Addi, 28, 29, -1234), 0xb2ee8e13), // addi x28, x29, -1234
+        (Ins::i_type(Op::Addi, 10, 0, 1), 0x00100513), // addi x10, x0, 1
         (Ins::i_type(Op::Slti, 28, 29, 5), 0x005eae13), // slti x28, x29, 5
         (Ins::i_type(Op::Sltiu, 28, 29, 6), 0x006ebe13), // sltiu x28, x29, 6
         (Ins::i_type(Op::Xori, 28, 29, -1), 0xfffece13), // xori x28, x29, -1
@@ -51,7 +51,7 @@ fn assembled(rt: HostRuntime) {
         (Ins::r_type(Op::Sra, 9, 18, 19), 0x413954b3), // sra x9, x18, x19
         (Ins::r_type(Op::Or, 9, 18, 19), 0x013964b3), // or x9, x18, x19
         (Ins::r_type(Op::And, 9, 18, 19), 0x013974b3), // and x9, x18, x19
-        (Ins::r_type(Op::Mul, 17, 30, 31), 0x03ff08b3), // mul x17, x30, x31
+        (Ins::r_type(Op::Mul, 5, 6, 7), 0x027302b3), // mul x5, x6, x7
         (Ins::r_type(Op::Mulh, 17, 30, 31), 0x03ff18b3), // mulh x17, x30, x31
         (Ins::r_type(Op::Mulhsu, 17, 30, 31), 0x03ff28b3), // mulhsu x17, x30, x31
         (Ins::r_type(Op::Mulhu, 17, 30, 31), 0x03ff38b3), // mulhu x17, x30, x31

@@ -1,0 +1,5 @@
+pub mod Item
+pub mod Pair
+pub mod Program
+pub mod Layout
+pub mod Whole
