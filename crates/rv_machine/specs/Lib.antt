@@ -1,6 +1,7 @@
 pub mod State
 pub mod View
 pub mod Progress
+pub mod Sizes
 pub mod Step
 pub mod Laws
 pub mod Reads
