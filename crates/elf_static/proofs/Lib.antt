@@ -3,3 +3,8 @@ pub mod Passing
 pub mod Distinct
 pub mod Names
 pub mod TableChecks
+pub mod Loading
+pub mod Rights
+pub mod Answered
+pub mod Lengths
+pub mod Padding

@@ -36,12 +36,22 @@ front_passes (c ∷ cs) back h = go c.fails h (front_passes cs back)
 pub back_passes : (front back : List Check) → first_failed (front ++ back) ≡ None → first_failed back ≡ None
 back_passes front back h = sym (first_behind front back (front_passes front back h)) ∙ h
 
-pub head_passes : (c : Check) (cs : List Check) → first_failed (c ∷ cs) ≡ None → (c.fails ≡ false) × (first_failed cs ≡ None)
-head_passes c cs h = go c.fails refl h
+-- no check of a list fails, as facts
+abbrev pub NoneFails : List Check → Type 0
+NoneFails [] = Unit {0}
+NoneFails (c ∷ cs) = (c.fails ≡ false) × NoneFails cs
+
+pub none_fails : (cs : List Check) → first_failed cs ≡ None → NoneFails cs
+none_fails [] h = tt
+none_fails (c ∷ cs) h = go c.fails refl h (none_fails cs)
   where
-    go : (b : Bool) → c.fails ≡ b → (if b then Some (NotElf c.kind c.at) else first_failed cs) ≡ None → (c.fails ≡ false) × (first_failed cs ≡ None)
-    go true e h = absurd cc
-    go false e h = (e, h)
+    go : (b : Bool) → c.fails ≡ b → (if b then Some (NotElf c.kind c.at) else first_failed cs) ≡ None → (first_failed cs ≡ None → NoneFails cs) → (c.fails ≡ false) × NoneFails cs
+    go true e h again = absurd cc
+    go false e h again = (e, again h)
+
+pub none_failed : (cs : List Check) → NoneFails cs → first_failed cs ≡ None
+none_failed [] h = refl
+none_failed (c ∷ cs) h = ap (λ b. if b then Some (NotElf c.kind c.at) else first_failed cs) h.0 ∙ none_failed cs h.1
 
 -- the answer of the checks behind those that passed
 pub passes_behind : {X : Type 0} (front back : List Check) (r : Result X ElfError) → first_failed front ≡ None → Passes r back → Passes r (front ++ back)

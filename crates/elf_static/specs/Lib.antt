@@ -7,3 +7,5 @@ pub mod Programs
 pub mod Table
 pub mod Sections
 pub mod Reading
+pub mod Layout
+pub mod Writing

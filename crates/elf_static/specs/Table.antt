@@ -1,6 +1,6 @@
 -- The table of entries: its bytes, and when it is right.
-use Rattle.std.specs.Prelude.{ℕ, suc, ◌≡◌, ◌+◌, ◌*◌, ◌/◌, ◌%◌, ◌<◌, ◌≤◌, ◌^◌, ◌⊎◌, ◌==◌, ◌&&◌, ◌||◌, not, nat_lt, nat_le, nat_eq, Bool, true, List, [], ◌∷◌, length, drop, map, codes, if◌then◌else◌, Option, Some, None, Any, EachIndex}
-use Rattle.std.specs.List.{list_any, list_all, starts_with, IsDistinct}
+use Rattle.std.specs.Prelude.{ℕ, suc, ◌≡◌, ◌+◌, ◌*◌, ◌/◌, ◌%◌, ◌<◌, ◌≤◌, ◌^◌, ◌⊎◌, ◌==◌, ◌&&◌, ◌||◌, not, nat_lt, nat_le, nat_eq, Bool, true, List, [], ◌∷◌, length, drop, map, codes, if◌then◌else◌, Any, AllPairs, ◌≢◌, slice_index_or}
+use Rattle.std.specs.List.{list_any, list_all, starts_with}
 use Rattle.smlc_base.specs.declared.point.Label.{Label}
 use Rattle.smlc_base.specs.declared.point.Point.{Point}
 use Rattle.smlc_base.specs.declared.point.PointKind.{PointKind}
@@ -64,6 +64,10 @@ are_distinct (x ∷ xs) = not (list_any (nat_eq x) xs) && are_distinct xs
 abbrev pub has_words : ℕ → ℕ → Segment → Bool
 has_words at words s = ((s.flags / 2) % 2 == 1) && nat_le s.address at && nat_le (at + 8 * words) (s.address + s.size)
 
+-- the same as a fact
+abbrev pub HoldsWords : ℕ → ℕ → Segment → Type 0
+HoldsWords at words s = ((s.flags / 2) % 2 ≡ 1) × (s.address ≤ at) × (at + 8 * words ≤ s.address + s.size)
+
 abbrev pub has_arena : List Segment → Entries → Bool
 has_arena segments e = (e.arena_words == 0) || ((e.arena % 8 == 0) && list_any (has_words e.arena e.arena_words) segments)
 
@@ -73,3 +77,18 @@ is_right segments bytes =
   && are_numbered 0 (entries_in bytes).rows
   && are_distinct (map address_of (entries_in bytes).rows)
   && has_arena segments (entries_in bytes)
+
+-- the row's label is its place
+abbrev pub HasLabel : List EntryRow → ℕ → Type 0
+HasLabel rows i = (d : EntryRow) → (slice_index_or rows i d).label.0 ≡ i
+
+abbrev pub HaveOtherAddresses : EntryRow → EntryRow → Type 0
+HaveOtherAddresses r s = r.address ≢ s.address
+
+-- the entries can stand in a table: they fit its count, their labels are 0, 1, 2 and so on, their addresses differ, and the arena is empty,
+-- or begins at a multiple of 8 and lies in a segment that may be written
+pub record IsRightTable (segments : List Segment) (e : Entries) : Type 0 where
+  pub count : length e.rows < 2 ^ 32
+  pub labels : (i : ℕ) → i < length e.rows → HasLabel e.rows i
+  pub addresses : AllPairs HaveOtherAddresses e.rows
+  pub arena : (e.arena_words ≡ 0) ⊎ ((e.arena % 8 ≡ 0) × Any (HoldsWords e.arena e.arena_words) segments)

@@ -6,6 +6,7 @@
 
 mod checks;
 mod error;
+mod fields;
 mod headers;
 mod image;
 mod numbers;
@@ -13,9 +14,12 @@ mod programs;
 mod reading;
 mod sections;
 mod table;
+mod writing;
 
 pub use checks::Check;
 pub use error::{ElfError, ElfKind};
+pub use fields::Field;
 pub use headers::{FileHeader, ProgramHeader, SectionHeader};
 pub use image::{Entries, EntryRow, Image, Segment};
 pub use reading::read_elf;
+pub use writing::write_elf;

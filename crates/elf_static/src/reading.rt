@@ -3,6 +3,8 @@
 ghost use Rattle.std.specs.Prelude.{◌≡◌, ◌≢◌, ◌+◌, ◌*◌, ◌≤◌, ◌<◌, ◌∷◌, length, IfOk, IfErr, Ok, Err};
 ghost use Rattle.elf_static.specs.Checks.{Passes};
 ghost use Rattle.elf_static.specs.Headers.{file_header};
+ghost use Rattle.elf_static.specs.Load.{IsLoadable};
+ghost use Rattle.elf_static.specs.Table.{IsRightTable};
 ghost use Rattle.elf_static.specs.Reading.{ident_check, size_check, header_checks, later_checks, checks_under, image_under, meaning_of};
 
 use crate::checks::{exceeds, pass, Check};
@@ -107,6 +109,8 @@ fn read_image(alloc: Global, bytes: &[u8]) -> Result<Image, ElfError>
 #[tactic(auto, unfolding(crate::specs::Reading::meaning_of))]
 pub fn read_elf(alloc: Global, bytes: &[u8]) -> Result<Image, ElfError>
     ensures ok { IfOk result (λ image. meaning_of bytes.now ≡ Ok image) }
+    ensures loadable { IfOk result IsLoadable }
+    ensures table { IfOk result (λ image. IsRightTable image.segments image.entries) }
     ensures not_elf { IfErr result (λ e. e ≢ ElfError.NoMemory → meaning_of bytes.now ≡ Err e) }
 {
     read_image(alloc, bytes)
