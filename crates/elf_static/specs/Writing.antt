@@ -161,3 +161,26 @@ written image =
   ++ padded 8 image.plan
   ++ padded 8 names
   ++ section_table image
+
+-- the numbers of all headers and of the table of entries fit their fields
+abbrev pub ProgramsFit : ℕ → List Segment → Type 0
+ProgramsFit offset [] = Unit {0}
+ProgramsFit offset (s ∷ ss) = FieldsFit (program_fields offset s) × ProgramsFit (offset + length (padded 4096 s.bytes)) ss
+
+abbrev pub SectionFits : ℕ → ℕ → ℕ → ℕ → Type 0
+SectionFits name kind offset size = FieldsFit (section_fields name kind offset size)
+
+pub record SectionsFit (image : Image) : Type 0 where
+  pub empty : SectionFits 0 0 0 0
+  pub entries : SectionFits 1 1 (entries_at image) (length (table_bytes image.entries))
+  pub plan : SectionFits 14 1 (plan_at image) (length image.plan)
+  pub names : SectionFits 24 3 (names_at image) (length names)
+
+pub record HeadersFit (image : Image) : Type 0 where
+  pub file : FieldsFit (file_fields (sections_at image))
+  pub programs : ProgramsFit 4096 image.segments
+
+pub record NumbersFit (image : Image) : Type 0 where
+  pub headers : HeadersFit image
+  pub entries : EntriesFit image.entries
+  pub sections : SectionsFit image

@@ -3,7 +3,7 @@
 ghost use Rattle.std.specs.Prelude.{◌≡◌, ◌+◌, ◌<◌, ◌^◌, ◌++◌, All, length, OnOk, IfOk, Ok};
 ghost use Rattle.std.specs.List.{flat_map};
 ghost use Rattle.elf_static.specs.Layout.{IsLaidOut};
-ghost use Rattle.elf_static.specs.Writing.{file_fields, program_fields, program_bytes, program_table, section_fields, section_bytes, number_of_kind, row_fields, row_bytes, table_fields, table_bytes, segment_bytes, names, entries_at, plan_at, names_at, sections_at, section_table, headers, written, RowFits, EntriesFit};
+ghost use Rattle.elf_static.specs.Writing.{file_fields, program_fields, program_bytes, program_table, section_fields, section_bytes, number_of_kind, row_fields, row_bytes, table_fields, table_bytes, segment_bytes, names, entries_at, plan_at, names_at, sections_at, section_table, headers, written, FieldsFit, RowFits, EntriesFit, ProgramsFit, SectionFits, SectionsFit, HeadersFit, NumbersFit};
 
 use crate::fields::{padded_len, put_fields, put_padded, Field};
 use crate::image::{Entries, EntryRow, Image, Segment};
@@ -158,7 +158,8 @@ fn segments_len(segments: &[Segment]) -> u64
 /// Puts the program header of a segment last whose bytes begin at an offset.
 #[tactic(auto, unfolding(crate::specs::Writing::program_bytes))]
 fn put_program(out: &mut Vec<u8>, offset: u64, s: &Segment) -> Result<(), NoMemory>
-    ensures { OnOk result (out.new.items ≡ out.old.items ++ program_bytes offset s.now) }
+    ensures bytes { OnOk result (out.new.items ≡ out.old.items ++ program_bytes offset s.now) }
+    ensures fits { OnOk result (FieldsFit (program_fields offset s.now)) }
 {
     put_fields(out, &fields_of_program(offset, s))
 }
@@ -166,7 +167,8 @@ fn put_program(out: &mut Vec<u8>, offset: u64, s: &Segment) -> Result<(), NoMemo
 /// Puts the program headers last.
 fn put_programs(out: &mut Vec<u8>, segments: &[Segment]) -> Result<(), NoMemory>
     requires { length (segment_bytes segments.now) < 2 ^ 40 }
-    ensures { OnOk result (out.new.items ≡ out.old.items ++ program_table 4096 segments.now) }
+    ensures bytes { OnOk result (out.new.items ≡ out.old.items ++ program_table 4096 segments.now) }
+    ensures fit { OnOk result (ProgramsFit 4096 segments.now) }
 {
     let mut offset = 4096;
     for s in segments {
@@ -229,7 +231,8 @@ fn table_len(e: &Entries) -> u64
 fn headers(alloc: Global, image: &Image, sections: u64) -> Result<Vec<u8>, NoMemory>
     requires segments { length (segment_bytes image.now.segments) < 2 ^ 40 }
     requires sections { sections ≡ sections_at image.now }
-    ensures { IfOk result (λ v. v.items ≡ headers image.now) }
+    ensures bytes { IfOk result (λ v. v.items ≡ headers image.now) }
+    ensures fit { OnOk result (HeadersFit image.now) }
 {
     let mut out = Vec::new(alloc);
     out.extend_from_slice(&[0x7F, b'E', b'L', b'F', 2, 1, 1, 0, 0, 0, 0, 0, 0, 0, 0, 0])?;
@@ -241,7 +244,8 @@ fn headers(alloc: Global, image: &Image, sections: u64) -> Result<Vec<u8>, NoMem
 /// Puts a section header last.
 #[tactic(auto, unfolding(crate::specs::Writing::section_bytes))]
 fn put_section(out: &mut Vec<u8>, name: u32, kind: u32, offset: u64, size: u64) -> Result<(), NoMemory>
-    ensures { OnOk result (out.new.items ≡ out.old.items ++ section_bytes name kind offset size) }
+    ensures bytes { OnOk result (out.new.items ≡ out.old.items ++ section_bytes name kind offset size) }
+    ensures fits { OnOk result (SectionFits name kind offset size) }
 {
     put_fields(out, &fields_of_section(name, kind, offset, size))
 }
@@ -252,13 +256,15 @@ fn put_sections(out: &mut Vec<u8>, image: &Image, places: &Places) -> Result<(),
     requires entries { places.now.entries ≡ entries_at image.now }
     requires plan { places.now.plan ≡ plan_at image.now }
     requires names { places.now.names ≡ names_at image.now }
-    ensures { OnOk result (out.new.items ≡ out.old.items ++ section_table image.now) }
+    ensures bytes { OnOk result (out.new.items ≡ out.old.items ++ section_table image.now) }
+    ensures fit { OnOk result (SectionsFit image.now) }
 {
     let entries = table_len(&image.entries);
     put_section(out, 0, 0, 0, 0)?;
     put_section(out, 1, 1, places.entries, entries)?;
     put_section(out, 14, 1, places.plan, image.plan.len() as u64)?;
-    put_section(out, 24, 3, places.names, NAMES.len() as u64)
+    put_section(out, 24, 3, places.names, NAMES.len() as u64)?;
+    Ok(())
 }
 
 /// The file of the image.
@@ -267,8 +273,7 @@ fn file_of(alloc: Global, image: &Image) -> Result<Vec<u8>, NoMemory>
     requires segments { length (segment_bytes image.now.segments) < 2 ^ 40 }
     requires rows { length image.now.entries.rows < 2 ^ 32 }
     ensures file { IfOk result (λ file. file.items ≡ written image.now) }
-    ensures fit { OnOk result (EntriesFit image.now.entries) }
-    ensures places { OnOk result (sections_at image.now < 2 ^ 64) }
+    ensures fit { OnOk result (NumbersFit image.now) }
 {
     let places = section_places(image);
     let headers = headers(alloc, image, places.sections)?;
