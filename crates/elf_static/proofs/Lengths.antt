@@ -13,7 +13,7 @@ use Rattle.elf_static.proofs.Padding.{above4096}
 use Rattle.elf_static.specs.Layout.{round_up, text_segment, read_only_segment, writable_segment, IsLaidOut}
 use Rattle.elf_static.specs.Writing.{padded, fields, table_fields, row_bytes, table_bytes, segment_bytes}
 
-length-row : (r : EntryRow) → length (row_bytes r) ≡ 24
+pub length-row : (r : EntryRow) → length (row_bytes r) ≡ 24
 unfolding row_bytes
 length-row r = refl
 

@@ -8,3 +8,6 @@ pub mod Rights
 pub mod Answered
 pub mod Lengths
 pub mod Padding
+pub mod FieldsRead
+pub mod HeadersRead
+pub mod TableRead

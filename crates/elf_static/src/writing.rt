@@ -3,6 +3,7 @@
 ghost use Rattle.std.specs.Prelude.{◌≡◌, ◌+◌, ◌<◌, ◌^◌, ◌++◌, All, length, OnOk, IfOk, Ok};
 ghost use Rattle.std.specs.List.{flat_map};
 ghost use Rattle.elf_static.specs.Layout.{IsLaidOut};
+ghost use Rattle.elf_static.specs.Reading.{meaning_of};
 ghost use Rattle.elf_static.specs.Writing.{file_fields, program_fields, program_bytes, program_table, section_fields, section_bytes, number_of_kind, row_fields, row_bytes, table_fields, table_bytes, segment_bytes, names, entries_at, plan_at, names_at, sections_at, section_table, headers, written, FieldsFit, RowFits, EntriesFit, ProgramsFit, SectionFits, SectionsFit, HeadersFit, NumbersFit};
 
 use crate::fields::{padded_len, put_fields, put_padded, Field};
@@ -290,7 +291,8 @@ fn file_of(alloc: Global, image: &Image) -> Result<Vec<u8>, NoMemory>
 /// Writes the image as a static RV64 ELF file, which `read_elf` reads as the same image.
 pub fn write_elf(alloc: Global, image: &Image) -> Result<Vec<u8>, NoMemory>
     requires { IsLaidOut image.now }
-    ensures { IfOk result (λ file. file.items ≡ written image.now) }
+    ensures written { IfOk result (λ file. file.items ≡ written image.now) }
+    ensures read { IfOk result (λ file. meaning_of file.items ≡ Ok image.now) }
 {
     file_of(alloc, image)
 }
