@@ -44,7 +44,7 @@ program_read : (offset : ℕ) (s : Segment) (rest : List ℕ) → FieldsFit (pro
 unfolding program_bytes
 program_read offset s rest fits = program_from offset s (fields (program_fields offset s) ++ rest) (are_read (program_fields offset s) [] rest fits)
 
-length-program : (offset : ℕ) (s : Segment) → length (program_bytes offset s) ≡ 56
+pub length-program : (offset : ℕ) (s : Segment) → length (program_bytes offset s) ≡ 56
 unfolding program_bytes
 length-program offset s = refl
 
@@ -73,7 +73,7 @@ section_read : (name kind offset size : ℕ) (rest : List ℕ) → SectionFits n
 unfolding section_bytes
 section_read name kind offset size rest fits = section_from name kind offset size (fields (section_fields name kind offset size) ++ rest) (are_read (section_fields name kind offset size) [] rest fits)
 
-length-section : (name kind offset size : ℕ) → length (section_bytes name kind offset size) ≡ 64
+pub length-section : (name kind offset size : ℕ) → length (section_bytes name kind offset size) ≡ 64
 unfolding section_bytes
 length-section name kind offset size = refl
 

@@ -11,3 +11,6 @@ pub mod Padding
 pub mod FieldsRead
 pub mod HeadersRead
 pub mod TableRead
+pub mod SegmentsRead
+pub mod Parts
+pub mod RoundTrip
