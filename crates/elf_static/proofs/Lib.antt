@@ -1,0 +1,16 @@
+pub mod Tables
+pub mod Passing
+pub mod Distinct
+pub mod Names
+pub mod TableChecks
+pub mod Loading
+pub mod Rights
+pub mod Answered
+pub mod Lengths
+pub mod Padding
+pub mod FieldsRead
+pub mod HeadersRead
+pub mod TableRead
+pub mod SegmentsRead
+pub mod Parts
+pub mod RoundTrip

@@ -1,0 +1,6 @@
+use Rattle.std.proofs.Common.{◌<◌, ◌+◌, length}
+use Rattle.std.specs.Prelude.{ℕ, slice_index}
+use Rattle.elf_static.proofs.table.is_increasing.Given as goal
+
+abbrev pub invariant-loop-i : goal.invariant-loop-i
+invariant-loop-i l = (k : ℕ) → k + 1 < l.i → slice_index l.numbers k < slice_index l.numbers (k + 1)

@@ -1,0 +1,11 @@
+pub mod Kinds
+pub mod Numbers
+pub mod Headers
+pub mod Checks
+pub mod Load
+pub mod Programs
+pub mod Table
+pub mod Sections
+pub mod Reading
+pub mod Layout
+pub mod Writing
