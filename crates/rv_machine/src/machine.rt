@@ -2,10 +2,11 @@
 
 ghost use Rattle.std.specs.Prelude.{◌≡◌, ◌<◌, ◌≤◌, ◌+◌, ◌++◌, length, OnOk, [], ◌^◌, IfOk, IfSome, None, Some};
 ghost use Rattle.rv_machine.specs.State.{total};
-ghost use Rattle.rv_machine.specs.Memory.{memory_of, areas_of, HasRoom, segment_bytes};
+ghost use Rattle.elf_static.specs.Load.{HasRoom};
+ghost use Rattle.rv_machine.specs.Memory.{memory_of, areas_of, segment_bytes};
 
 use crate::hart::{Area, End, Hart};
-use crate::image::{Image, Segment};
+use elf_static::{Image, Segment};
 use smlc_base::NoMemory;
 use smlc_edge::{Sink, Source};
 use std::alloc::Global;
@@ -31,7 +32,8 @@ impl Model for Machine {
 impl Machine {
     ghost use Rattle.std.specs.Prelude.{List, ℕ, Option, None, Some, IfOk, ◌≡◌, ◌≢◌, ◌<◌};
     ghost use Rattle.smlc_edge.specs.Edge.{Gains};
-    ghost use Rattle.rv_machine.specs.Load.{IsLoadable, loaded};
+    ghost use Rattle.elf_static.specs.Load.{IsLoadable};
+    ghost use Rattle.rv_machine.specs.Load.{loaded};
     ghost use Rattle.rv_machine.specs.State.{reg};
     ghost use Rattle.rv_machine.specs.Step.{double_of};
     ghost use Rattle.rv_machine.specs.Run.{RunsTo, CountsAt, ended_by};

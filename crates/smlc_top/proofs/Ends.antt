@@ -9,14 +9,16 @@ use Rattle.rv_machine.specs.State.{State}
 use Rattle.rv_machine.specs.Load.{loaded}
 use Rattle.rv_machine.specs.Run.{World, Cut, Mend, Runs, Exited, Trapped, Turn, behaviour, RunsTo, mend_of}
 use Rattle.smlc_top.specs.Code.{bytes_of, pieces_code, whole_code, data_at, image_of, IsStraight}
-use Rattle.rv_machine.specs.declared.image.Image.{Image}
+use Rattle.elf_static.specs.declared.image.Image.{Image}
+use Rattle.elf_static.specs.Layout.{round_up, writable_segment}
+use Rattle.rv_machine.specs.Memory.{memory_of, areas_of}
 use Rattle.smlc_top.specs.declared.outcome.Outcome.{Outcome}
 use Rattle.smlc_top.specs.Clause.{Tally, Came, Ran}
 use Rattle.smlc_top.specs.Prints.{begun, Prints}
 use Rattle.smlc_top.specs.Reader.{IsPositive, total}
 use Rattle.smlc_top.specs.Write.{IsPrefix}
 use Rattle.smlc_top.proofs.Reach.{reaches_end, Wrote, behaviour-more, behaviour-ended}
-use Rattle.smlc_top.proofs.Fetch.{At}
+use Rattle.smlc_top.proofs.Fetch.{At, memory_areas}
 use Rattle.smlc_top.proofs.Straight.{run_code, Finishes}
 
 -- ---- sizes
@@ -99,11 +101,15 @@ module _ (text : List ℕ) (w : World) (c : List Cut) (last : ℕ)
 
 -- ---- the image
 
-memory_is : (code text : List ℕ) → (code ++ replicate (length code - length code) 0) ++ ((text ++ replicate (length text - length text) 0) ++ []) ≡ code ++ text
-memory_is code text =
+-- where the read-only data begin
+pub data-round_up : (lengths : List ℕ) → round_up 4096 (65536 + length (bytes_of (whole_code lengths))) ≡ data_at lengths
+data-round_up lengths = let size = length-code lengths in omega arith
+
+memory_is : (code text spare : List ℕ) → (code ++ replicate (length code - length code) 0) ++ ((text ++ replicate (length text - length text) 0) ++ spare) ≡ code ++ (text ++ spare)
+memory_is code text spare =
     let none : length code - length code ≡ 0 = omega arith in
     let none' : length text - length text ≡ 0 = omega arith in
-    rw (none, none', append-nil code) (ap (λ (z : List ℕ). code ++ z) (append-nil (text ++ []) ∙ append-nil text))
+    rw (none, none', append-nil code, append-nil text) refl
 
 -- the image of pieces prints their text
 pub straight_prints : (lengths text : List ℕ) → IsStraight lengths text → Prints (image_of lengths text) text (64 * (1 + length text))
@@ -115,8 +121,10 @@ straight_prints lengths text s = λ input cuts.
     let apart : 65536 + length code ≤ d = omega (arith, size) in
     let bounded : d + length text < 2 ^ 40 = omega (arith, s.bounded) in
     let w : World = begun (image_of lengths text) input in
-    let bytes : w.state.bytes ≡ code ++ text = memory_is code text in
-    let at : At code text d 65536 w.state = record { pc_is = refl; bytes_is = bytes; areas_is = refl; regs_are = refl } in
+    let spare = memory_of (writable_segment code text 0 0 ∷ []) in
+    let behind = areas_of (writable_segment code text 0 0 ∷ []) in
+    let areas : w.state.areas ≡ memory_areas code text d behind = ap (λ (a : ℕ). memory_areas code text a behind) (data-round_up lengths) in
+    let at : At code text d 65536 w.state = record { pc_is = refl; spare = spare; more = behind; bytes_is = memory_is code text spare; areas_is = areas; regs_are = refl } in
     let f : Finishes code text d apart bounded (8 * total lengths + 3) (length text) w cuts = run_code code text d apart bounded lengths w cuts refl at refl refl s.positive s.sums s.bounded (omega arith) (omega arith) in
     let comes = reaches_end f.leads.count w f.world cuts f.cuts (Exited 0) f.leads.reaches f.exits in
     record {

@@ -13,3 +13,4 @@ pub mod Words
 pub mod Answering
 pub mod Faults
 pub mod Single
+pub mod Images

@@ -1,6 +1,6 @@
 -- Images that print a text.
 use Rattle.std.specs.Prelude.{ℕ, ◌≡◌, ◌≤◌, List, [], Option}
-use Rattle.rv_machine.specs.declared.image.Image.{Image}
+use Rattle.elf_static.specs.declared.image.Image.{Image}
 use Rattle.rv_machine.specs.Load.{loaded}
 use Rattle.rv_machine.specs.Run.{World, Cut, Exited, behaviour}
 

@@ -1,16 +1,17 @@
 //! The straight code of print lines: one loop of writes for each piece, and an exit.
 
-ghost use Rattle.std.specs.Prelude.{◌≡◌, ◌+◌, ◌*◌, ◌%◌, ◌<◌, ◌≤◌, ◌^◌, ◌++◌, [], ◌∷◌, pos, negsuc, length, OnOk, IfOk};
+ghost use Rattle.std.specs.Prelude.{◌≡◌, ◌+◌, ◌*◌, ◌/◌, ◌%◌, ◌<◌, ◌≤◌, ◌^◌, ◌++◌, [], ◌∷◌, pos, negsuc, length, OnOk, IfOk};
 ghost use Rattle.std.specs.Int.{w32, to_le_bytes};
 ghost use Rattle.rv_isa.specs.Word.{Fits, word_of, ins as ins_op};
 ghost use Rattle.smlc_top.specs.Reader.{total};
-ghost use Rattle.rv_machine.specs.Load.{IsLoadable};
+ghost use Rattle.elf_static.specs.Layout.{IsLaidOut, round_up};
+ghost use Rattle.elf_static.specs.Table.{no_entries};
 ghost use Rattle.smlc_top.specs.Code.{bytes_of, piece_code, pieces_code, loop_code, exit_code, low_part, image_of, IsStraight};
 ghost use Rattle.smlc_top.specs.Prints.{Prints};
 
 use crate::reader::Printed;
 use rv_isa::{Ins, Op, encode};
-use rv_machine::{Image, Segment};
+use elf_static::{Entries, Image, Segment};
 use smlc_base::{NoMemory, Row};
 use std::alloc::Global;
 
@@ -125,7 +126,7 @@ fn count(printed: &Printed) -> u32
 pub fn make(alloc: Global, printed: Printed) -> Result<Image, NoMemory>
     requires { IsStraight printed.lengths.items printed.text.items }
     ensures image { IfOk result (λ image. image ≡ image_of printed.lengths.items printed.text.items) }
-    ensures loadable { IfOk result IsLoadable }
+    ensures laid_out { IfOk result IsLaidOut }
     ensures prints { IfOk result (λ image. Prints image printed.text.items (64 * (1 + length printed.text.items))) }
 {
     let image = build(alloc, printed)?;
@@ -136,25 +137,67 @@ fn build(alloc: Global, printed: Printed) -> Result<Image, NoMemory>
     requires { IsStraight printed.lengths.items printed.text.items }
     ensures { IfOk result (λ image. image ≡ image_of printed.lengths.items printed.text.items) }
 {
-    let base = 0x1_0000 + (count(&printed) * 32 + 16 + 4095) / 4096 * 4096;
+    let base = data_address(count(&printed));
     let code = code_of(alloc, base, &printed.lengths)?;
-    let mut segments = Row::new(alloc);
-    let size = code.len() as u64;
-    segments.push(Segment {
-        address: 0x1_0000,
-        flags: 5,
-        bytes: Row::from_vec(code),
+    let behind = base as u64 + printed.text.len() as u64;
+    let text = segment(0x1_0000, 5, code);
+    let read_only = segment(base as u64, 4, printed.text);
+    let image = image_with(alloc, text, read_only, writable(alloc, behind))?;
+    Ok(image)
+}
+
+// Where the read-only data of so many pieces begin.
+fn data_address(count: u32) -> u32
+    requires { count ≤ 1048576 }
+    ensures value { result ≡ 65536 + (count * 32 + 16 + 4095) / 4096 * 4096 }
+    ensures near { result < 2 ^ 31 }
+    ensures lined { result % 4096 ≡ 0 }
+{
+    0x1_0000 + (count * 32 + 16 + 4095) / 4096 * 4096
+}
+
+// A segment that is as long as its bytes.
+fn segment(address: u64, flags: u32, bytes: Vec<u8>) -> Segment
+    ensures { result ≡ record { address = address; flags = flags; bytes = bytes.items; size = length bytes.items } }
+{
+    let size = bytes.len() as u64;
+    Segment {
+        address,
+        flags,
+        bytes: Row::from_vec(bytes),
         size,
-    })?;
-    let text_size = printed.text.len() as u64;
-    segments.push(Segment {
-        address: base as u64,
-        flags: 4,
-        bytes: Row::from_vec(printed.text),
-        size: text_size,
-    })?;
+    }
+}
+
+// Memory that may be written, from the next multiple of 4,096 on.
+fn writable(alloc: Global, behind: u64) -> Segment
+    requires { behind < 2 ^ 63 }
+    ensures { result ≡ record { address = round_up 4096 behind; flags = 6; bytes = []; size = 8192 } }
+{
+    Segment {
+        address: (behind + 4095) / 4096 * 4096,
+        flags: 6,
+        bytes: Row::new(alloc),
+        size: 8192,
+    }
+}
+
+fn image_with(
+    alloc: Global,
+    text: Segment,
+    read_only: Segment,
+    writable: Segment,
+) -> Result<Image, NoMemory>
+    ensures { IfOk result (λ image. image ≡ record { entry = 65536; segments = text ∷ read_only ∷ writable ∷ []; entries = no_entries; plan = [] }) }
+{
+    let mut segments = Row::new(alloc);
+    segments.push(text)?;
+    segments.push(read_only)?;
+    segments.push(writable)?;
     Ok(Image {
         entry: 0x1_0000,
         segments,
+        entries: Entries::none(alloc),
+        plan: Row::new(alloc),
     })
 }

@@ -2,7 +2,7 @@
 
 ghost use Rattle.std.specs.Prelude.{◌≡◌, ◌≢◌, ◌↔◌, ◌≤◌, ◌⊎◌, List, ℕ, map, string_bytes, IsTrue, false};
 ghost use Rattle.smlc_edge.specs.Edge.{Rose};
-ghost use Rattle.rv_machine.specs.Load.{IsLoadable};
+ghost use Rattle.elf_static.specs.Load.{IsLoadable};
 ghost use Rattle.smlc_top.specs.Command.{Runs};
 ghost use Rattle.smlc_top.specs.Prints.{Prints};
 ghost use Rattle.smlc_top.specs.Outcome.{is_fault, Refuses};
@@ -13,7 +13,8 @@ use crate::command::operand;
 use crate::outcome::{Outcome, USAGE, refusal_text, report};
 use crate::reader::{Reading, read_file};
 use crate::write::say;
-use rv_machine::{End, Image, Machine};
+use elf_static::Image;
+use rv_machine::{End, Machine};
 use smlc_base::{Banned, Place, Refusal};
 use smlc_edge::{Sink, Source, Store, StoreError};
 use std::alloc::Global;
