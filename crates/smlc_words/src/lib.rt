@@ -4,8 +4,11 @@
 //! where they ask nothing.
 #![tactic(auto)]
 
+pub mod arguments;
 pub mod asked;
 pub mod flag;
+pub mod laws;
+pub mod value;
 pub mod words;
 
 pub use asked::Command;
