@@ -1,9 +1,10 @@
 -- Words give at most one thing, and what they ask lies in its ranges.
-use Rattle.std.proofs.Common.{ℕ, ◌≡◌, ◌≤◌, ◌-◌, List, [], ◌∷◌, length, get_or, take, drop, map, take_all, le_refl, arith, Some, None, unwrap_or, codes, refl, sym, ap, ap₂, subst, ◌∙◌, IfSome}
+use Rattle.std.proofs.Common.{ℕ, ◌≡◌, ◌≤◌, ◌-◌, List, [], ◌∷◌, length, get_or, take, drop, map, take_all, le_refl, arith, Some, None, Option, unwrap_or, codes, refl, sym, ap, ap₂, subst, ◌∙◌, IfSome, IfNone}
+use Rattle.smlc_words.specs.declared.asked.Command.{Command}
 use Rattle.smlc_words.specs.declared.flag.Flag.{Flag}
 use Rattle.smlc_words.specs.declared.flag.Flag.TheVariants.{Out, Arena, Steps, Stride}
 use Rattle.smlc_words.specs.Given.{IsBetween, IsArena, IsSteps, IsStride, Given, nothing, Takes, IsGiven, AtEnd, AnOperand, AnOption}
-use Rattle.smlc_words.specs.Asks.{Asked, Compile, Run, Meter, Exec, Types, Plan, Gen, Bench, AreNumbers, IsFor, Asks}
+use Rattle.smlc_words.specs.Asks.{Asked, Compile, Run, Meter, Exec, Types, Plan, Gen, Bench, AreNumbers, IsFor, Asks, asked}
 use Rattle.smlc_words.specs.Laws.{AskOnce, AskInRange, IsInRange}
 use Rattle.smlc_words.proofs.Reading.{apart, operand_next, option_next}
 
@@ -103,11 +104,8 @@ asks_in_range = in_range
     in_range (program ∷ []) a i = absurd i
     in_range (program ∷ name ∷ words) a (g, d, i) = for_in_range name g a (given_in_range d (tt, tt, tt)) i
 
-pub for_range : {whole : Given} {words : List (List ℕ)} (name : List ℕ) (a : Asked) → IsGiven whole nothing words → IsFor name whole a → IsInRange a
-for_range name a d i = for_in_range name _ a (given_in_range d (tt, tt, tt)) i
-
--- where the words behind the second give no more than `whole`, it is what is asked with
-pub asked_with : {X : Type 0} (f : X → List ℕ) (xs : List X) (x : X) (name : List ℕ) (whole : Given) → 2 ≤ length xs → x ≡ get_or xs 1 x → name ≡ f x → IsGiven whole nothing (map f (take (length xs - 2) (drop 2 xs))) → (a : Asked) → Asks (map f xs) a → IsFor name whole a
+-- where the words behind the second give `whole`, it is what is asked with
+asked_with : {X : Type 0} (f : X → List ℕ) (xs : List X) (x : X) (name : List ℕ) (whole : Given) → 2 ≤ length xs → x ≡ get_or xs 1 x → name ≡ f x → IsGiven whole nothing (map f (take (length xs - 2) (drop 2 xs))) → (a : Asked) → Asks (map f xs) a → IsFor name whole a
 asked_with f [] x name whole l e n d a i = absurd i
 asked_with f (p ∷ []) x name whole l e n d a i = absurd i
 asked_with f (p ∷ q ∷ ys) x name whole l e n d a (g, d', i) =
@@ -115,3 +113,14 @@ asked_with f (p ∷ q ∷ ys) x name whole l e n d a (g, d', i) =
     let rest : take (length (p ∷ q ∷ ys) - 2) ys ≡ ys = ap (λ m. take m ys) k ∙ take_all (length ys) ys (le_refl (length ys)) in
     let same : g ≡ whole = given_once d' (subst (λ zs. IsGiven whole nothing (map f zs)) rest d) in
     subst (λ m. IsFor m whole a) (ap f (sym e) ∙ sym n) (subst (λ h. IsFor (f q) h a) same i)
+
+pub nothing_asked : {X : Type 0} (f : X → List ℕ) (xs : List X) (x : X) (name : List ℕ) (whole : Given) (answer : Option Command) → 2 ≤ length xs → x ≡ get_or xs 1 x → name ≡ f x → IsGiven whole nothing (map f (take (length xs - 2) (drop 2 xs))) → IfNone answer ((a : Asked) → IsFor name whole a → ⊥) → IfNone answer ((a : Asked) → Asks (map f xs) a → ⊥)
+nothing_asked f xs x name whole None l e n d h = λ a i. h a (asked_with f xs x name whole l e n d a i)
+nothing_asked f xs x name whole (Some c) l e n d h = tt
+
+pub answer_in_range : (name : List ℕ) (words : List (List ℕ)) (whole : Given) (answer : Option Command) → IsGiven whole nothing words → IfSome answer (λ c. IsFor name whole (asked c)) → IfSome answer (λ c. IsInRange (asked c))
+answer_in_range name words whole None d h = tt
+answer_in_range name words whole (Some c) d h = for_in_range name whole (asked c) (given_in_range d (tt, tt, tt)) h
+
+pub held : {A : Type 0} (P : A → Type 0) (o : Option A) (x : A) → o ≡ Some x → IfSome o P → P x
+held P o x e h = subst (λ p. IfSome p P) e h
