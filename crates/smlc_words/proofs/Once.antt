@@ -118,9 +118,8 @@ pub nothing_asked : {X : Type 0} (f : X → List ℕ) (xs : List X) (x : X) (nam
 nothing_asked f xs x name whole None l e n d h = λ a i. h a (asked_with f xs x name whole l e n d a i)
 nothing_asked f xs x name whole (Some c) l e n d h = tt
 
-pub answer_in_range : (name : List ℕ) (words : List (List ℕ)) (whole : Given) (answer : Option Command) → IsGiven whole nothing words → IfSome answer (λ c. IsFor name whole (asked c)) → IfSome answer (λ c. IsInRange (asked c))
-answer_in_range name words whole None d h = tt
-answer_in_range name words whole (Some c) d h = for_in_range name whole (asked c) (given_in_range d (tt, tt, tt)) h
+pub asked_in_range : (name : List ℕ) (words : List (List ℕ)) (whole : Given) → IsGiven whole nothing words → (c : Command) → IsFor name whole (asked c) → IsInRange (asked c)
+asked_in_range name words whole d c h = for_in_range name whole (asked c) (given_in_range d (tt, tt, tt)) h
 
 pub held : {A : Type 0} (P : A → Type 0) (o : Option A) (x : A) → o ≡ Some x → IfSome o P → P x
 held P o x e h = subst (λ p. IfSome p P) e h

@@ -1,5 +1,5 @@
 -- What the next word does to what was given.
-use Rattle.std.proofs.Common.{ℕ, ◌≡◌, ◌≢◌, ◌≤◌, ◌<◌, ◌-◌, ◌↔◌, List, [], ◌∷◌, length, get_or, take, drop, map, false, refl, sym, ap, subst, ◌∙◌, bytes_eq, true≢false, arith, take_all, le_refl, ◌++◌,  Some, Option}
+use Rattle.std.proofs.Common.{ℕ, ◌≡◌, ◌≤◌, ◌-◌, ◌↔◌, List, [], ◌∷◌, length, get_or, take, drop, map, false, refl, sym, ap, subst, ◌∙◌, bytes_eq, true≢false, arith, take_all, le_refl, ◌++◌, Some}
 use Rattle.std.proofs.lemmas.List.{map-append}
 use Rattle.std.proofs.lemmas.Slice.Eq.{bytes_eq-Decides}
 use Rattle.smlc_words.specs.declared.flag.Flag.{Flag}
@@ -38,10 +38,6 @@ option_next {whole = w} f (AnOption f' value g then' words t' next) e t =
     let same : Takes f value g then' = subst (λ x. Takes x value g then') (spelled_once f' f e) t' in
     subst (λ x. IsGiven w x words) (taken_once f value g then' _ same t) next
 
-neither : {whole g : Given} {word : List ℕ} {words : List (List ℕ)} → IsGiven whole g (word ∷ words) → (IsOperand word → ⊥) → ((f : Flag) → word ≢ spelling f) → ⊥
-neither (AnOperand g word words o next) h k = h o
-neither (AnOption f value g then words t next) h k = k f refl
-
 no_value : {whole g : Given} {word : List ℕ} {words : List (List ℕ)} (f : Flag) → IsGiven whole g (word ∷ words) → word ≡ spelling f → ((value : List ℕ) (rest : List (List ℕ)) (then : Given) → words ≡ value ∷ rest → Takes f value g then → ⊥) → ⊥
 no_value f (AnOperand g word words o next) e h = no_option f (subst IsOperand e o)
 no_value f (AnOption f' value g then words t next) e h = h value words then refl (subst (λ x. Takes x value g then) (spelled_once f' f e) t)
@@ -70,14 +66,6 @@ module _ {X : Type 0} (f : X → List ℕ) where
       let s : map f xs ≡ word ∷ value ∷ rest = first_of_all xs x word l e w ∙ ap (λ ws. word ∷ ws) (first_of_all (behind xs) y value l' e' v) in
       (λ d. option_next flag (subst (λ ws. IsGiven whole g ws) s d) is t,
        λ d. subst (λ ws. IsGiven whole g ws) (ap (λ x. x ∷ value ∷ rest) (sym is) ∙ sym s) (AnOption flag value g then rest t d))
-
-  pub value_missing : (xs : List X) (x : X) (word : List ℕ) (flag : Flag) (g : Given) → 1 ≤ length xs → x ≡ get_or xs 0 x → word ≡ f x → length (behind xs) < 1 → word ≡ spelling flag → (whole : Given) → IsGiven whole g (map f xs) → ⊥
-  value_missing xs x word flag g l e w none is whole d =
-      no_value flag (subst (λ ws. IsGiven whole g ws) (first_of_all xs x word l e w) d) is (λ value rest then s t. no_words (behind xs) value rest none s)
-    where
-      no_words : (ys : List X) (value : List ℕ) (rest : List (List ℕ)) → length ys < 1 → map f ys ≡ value ∷ rest → ⊥
-      no_words [] value rest l s = cc
-      no_words (y ∷ ys) value rest l s = omega arith
 
   pub value_refused : (xs : List X) (x y : X) (word value : List ℕ) (flag : Flag) (g : Given) → 1 ≤ length xs → x ≡ get_or xs 0 x → word ≡ f x → 1 ≤ length (behind xs) → y ≡ get_or (behind xs) 0 y → value ≡ f y → word ≡ spelling flag → ((then : Given) → Takes flag value g then → ⊥) → (whole : Given) → IsGiven whole g (map f xs) → ⊥
   value_refused xs x y word value flag g l e w l' e' v is no_then whole d =

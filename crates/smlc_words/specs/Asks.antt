@@ -1,5 +1,5 @@
 -- What the words of a command line ask.
-use Rattle.std.specs.Prelude.{ℕ, ◌≡◌, ◌≤◌, ◌-◌, ◌^◌, List, [], ◌∷◌, length, map, codes, Option, Some, None}
+use Rattle.std.specs.Prelude.{ℕ, ◌≡◌, ◌-◌, ◌^◌, List, [], ◌∷◌, length, map, codes, Option, Some}
 use Rattle.smlc_words.specs.declared.asked.Command.{Command}
 use Rattle.smlc_words.specs.declared.asked.Command.TheVariants as command
 use Rattle.smlc_words.specs.Given.{IsNumber, IsBetween, Given, nothing, IsGiven}

@@ -1,6 +1,7 @@
 use Rattle.std.proofs.Common.{string_bytes}
+use Rattle.std.proofs.lemmas.Option.{IfSome_then}
 use Rattle.smlc_words.specs.Arguments.{given}
-use Rattle.smlc_words.proofs.Once.{nothing_asked, answer_in_range, held}
+use Rattle.smlc_words.proofs.Once.{nothing_asked, asked_in_range, held}
 use Rattle.smlc_words.proofs.words.command.Goals as goal
 
 pub returns-in-Ok-Some-clause-none : goal.returns-in-Ok-Some-clause-none
@@ -10,4 +11,5 @@ returns-in-Ok-Some-clause-none c =
 
 pub returns-in-Ok-Some-clause-range : goal.returns-in-Ok-Some-clause-range
 returns-in-Ok-Some-clause-range c =
-    answer_in_range c.deref.result.now _ (given c.in-Ok-Some.arguments) c.command_of.result (held _ _ _ c.in-Ok-Some.field-0-is c.in-Ok-Some.ensures.some) c.command_of.ensures.some
+    IfSome_then c.command_of.result c.command_of.ensures.some
+    (asked_in_range c.deref.result.now _ (given c.in-Ok-Some.arguments) (held _ _ _ c.in-Ok-Some.field-0-is c.in-Ok-Some.ensures.some))

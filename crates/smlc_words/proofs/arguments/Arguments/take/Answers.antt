@@ -1,4 +1,4 @@
-use Rattle.std.proofs.Common.{string_bytes, map, ap}
+use Rattle.std.proofs.Common.{string_bytes, ap}
 use Rattle.smlc_words.specs.Arguments.{given}
 use Rattle.smlc_words.proofs.Reading.{operand_taken, option_taken, value_refused, one_more}
 use Rattle.smlc_words.proofs.arguments.Arguments.take.Goals as goal
