@@ -4,7 +4,7 @@ use Rattle.smlc_words.specs.declared.asked.Command.{Command}
 use Rattle.smlc_words.specs.declared.flag.Flag.{Flag}
 use Rattle.smlc_words.specs.declared.flag.Flag.TheVariants.{Out, Arena, Steps, Stride}
 use Rattle.smlc_words.specs.Given.{IsBetween, IsArena, IsSteps, IsStride, Given, nothing, Takes, IsGiven, AtEnd, AnOperand, AnOption}
-use Rattle.smlc_words.specs.Asks.{Asked, Compile, Run, Meter, Exec, Types, Plan, Gen, Bench, AreNumbers, IsFor, Asks, asked}
+use Rattle.smlc_words.specs.Asks.{Asked, Compile, Run, Meter, Exec, Types, Plan, Gen, Bench, AreNumbers, IsFor, IsAnswer, Asks, asked}
 use Rattle.smlc_words.specs.Laws.{AskOnce, AskInRange, IsInRange}
 use Rattle.smlc_words.proofs.Reading.{apart, operand_next, option_next}
 
@@ -114,12 +114,13 @@ asked_with f (p ∷ q ∷ ys) x name whole l e n d a (g, d', i) =
     let same : g ≡ whole = given_once d' (subst (λ zs. IsGiven whole nothing (map f zs)) rest d) in
     subst (λ m. IsFor m whole a) (ap f (sym e) ∙ sym n) (subst (λ h. IsFor (f q) h a) same i)
 
-pub nothing_asked : {X : Type 0} (f : X → List ℕ) (xs : List X) (x : X) (name : List ℕ) (whole : Given) (answer : Option Command) → 2 ≤ length xs → x ≡ get_or xs 1 x → name ≡ f x → IsGiven whole nothing (map f (take (length xs - 2) (drop 2 xs))) → IfNone answer ((a : Asked) → IsFor name whole a → ⊥) → IfNone answer ((a : Asked) → Asks (map f xs) a → ⊥)
+pub nothing_asked : {X : Type 0} (f : X → List ℕ) (xs : List X) (x : X) (name : List ℕ) (whole : Given) (answer : Option Command) → 2 ≤ length xs → x ≡ get_or xs 1 x → name ≡ f x → IsGiven whole nothing (map f (take (length xs - 2) (drop 2 xs))) → IsAnswer name whole answer → IfNone answer ((a : Asked) → Asks (map f xs) a → ⊥)
 nothing_asked f xs x name whole None l e n d h = λ a i. h a (asked_with f xs x name whole l e n d a i)
 nothing_asked f xs x name whole (Some c) l e n d h = tt
 
-pub asked_in_range : (name : List ℕ) (words : List (List ℕ)) (whole : Given) → IsGiven whole nothing words → (c : Command) → IsFor name whole (asked c) → IsInRange (asked c)
-asked_in_range name words whole d c h = for_in_range name whole (asked c) (given_in_range d (tt, tt, tt)) h
+pub answer_in_range : (name : List ℕ) (words : List (List ℕ)) (whole : Given) (answer : Option Command) → IsGiven whole nothing words → IsAnswer name whole answer → IfSome answer (λ c. IsInRange (asked c))
+answer_in_range name words whole None d h = tt
+answer_in_range name words whole (Some c) d h = for_in_range name whole (asked c) (given_in_range d (tt, tt, tt)) h
 
 pub held : {A : Type 0} (P : A → Type 0) (o : Option A) (x : A) → o ≡ Some x → IfSome o P → P x
 held P o x e h = subst (λ p. IfSome p P) e h

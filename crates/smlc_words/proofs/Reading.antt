@@ -56,16 +56,18 @@ module _ {X : Type 0} (f : X → List ℕ) where
 
   pub operand_taken : (xs : List X) (x : X) (word : List ℕ) (g then : Given) → 1 ≤ length xs → x ≡ get_or xs 0 x → word ≡ f x → IsOperand word → then ≡ with_operand g word → (whole : Given) → IsGiven whole g (map f xs) ↔ IsGiven whole then (map f (behind xs))
   operand_taken xs x word g then l e w o t whole =
-      let s = first_of_all xs x word l e w in
-      (λ d. subst (λ h. IsGiven whole h (map f (behind xs))) (sym t) (operand_next (subst (λ ws. IsGiven whole g ws) s d) o),
-       λ d. subst (λ ws. IsGiven whole g ws) (sym s) (AnOperand g word (map f (behind xs)) o (subst (λ h. IsGiven whole h (map f (behind xs))) t d)))
+      let s = first_of_all xs x word l e w in (
+        λ d. subst (λ h. IsGiven whole h (map f (behind xs))) (sym t) (operand_next (subst (λ ws. IsGiven whole g ws) s d) o),
+        λ d. subst (λ ws. IsGiven whole g ws) (sym s) (AnOperand g word (map f (behind xs)) o (subst (λ h. IsGiven whole h (map f (behind xs))) t d)),
+      )
 
   pub option_taken : (xs : List X) (x y : X) (word value : List ℕ) (flag : Flag) (g then : Given) → 1 ≤ length xs → x ≡ get_or xs 0 x → word ≡ f x → 1 ≤ length (behind xs) → y ≡ get_or (behind xs) 0 y → value ≡ f y → word ≡ spelling flag → Takes flag value g then → (whole : Given) → IsGiven whole g (map f xs) ↔ IsGiven whole then (map f (behind (behind xs)))
   option_taken xs x y word value flag g then l e w l' e' v is t whole =
       let rest = map f (behind (behind xs)) in
-      let s : map f xs ≡ word ∷ value ∷ rest = first_of_all xs x word l e w ∙ ap (λ ws. word ∷ ws) (first_of_all (behind xs) y value l' e' v) in
-      (λ d. option_next flag (subst (λ ws. IsGiven whole g ws) s d) is t,
-       λ d. subst (λ ws. IsGiven whole g ws) (ap (λ x. x ∷ value ∷ rest) (sym is) ∙ sym s) (AnOption flag value g then rest t d))
+      let s : map f xs ≡ word ∷ value ∷ rest = first_of_all xs x word l e w ∙ ap (λ ws. word ∷ ws) (first_of_all (behind xs) y value l' e' v) in (
+        λ d. option_next flag (subst (λ ws. IsGiven whole g ws) s d) is t,
+        λ d. subst (λ ws. IsGiven whole g ws) (ap (λ x. x ∷ value ∷ rest) (sym is) ∙ sym s) (AnOption flag value g then rest t d),
+      )
 
   pub value_refused : (xs : List X) (x y : X) (word value : List ℕ) (flag : Flag) (g : Given) → 1 ≤ length xs → x ≡ get_or xs 0 x → word ≡ f x → 1 ≤ length (behind xs) → y ≡ get_or (behind xs) 0 y → value ≡ f y → word ≡ spelling flag → ((then : Given) → Takes flag value g then → ⊥) → (whole : Given) → IsGiven whole g (map f xs) → ⊥
   value_refused xs x y word value flag g l e w l' e' v is no_then whole d =

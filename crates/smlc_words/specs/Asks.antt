@@ -1,5 +1,5 @@
 -- What the words of a command line ask.
-use Rattle.std.specs.Prelude.{ℕ, ◌≡◌, ◌-◌, ◌^◌, List, [], ◌∷◌, length, map, codes, Option, Some}
+use Rattle.std.specs.Prelude.{ℕ, ◌≡◌, ◌-◌, ◌^◌, List, [], ◌∷◌, length, map, codes, Option, Some, MatchOption}
 use Rattle.smlc_words.specs.declared.asked.Command.{Command}
 use Rattle.smlc_words.specs.declared.asked.Command.TheVariants as command
 use Rattle.smlc_words.specs.Given.{IsNumber, IsBetween, Given, nothing, IsGiven}
@@ -53,3 +53,7 @@ asked (command.Types files) = Types (map (λ file. file.now) files.items)
 asked (command.Plan files) = Plan (map (λ file. file.now) files.items)
 asked (command.Gen number size) = Gen number size
 asked (command.Bench number size) = Bench number size
+
+-- the answer is what the command of this name asks with what is given, and None where it asks nothing
+abbrev pub IsAnswer : List ℕ → Given → Option Command → Type 0
+IsAnswer name g answer = MatchOption answer ((a : Asked) → IsFor name g a → ⊥) (λ c. IsFor name g (asked c))

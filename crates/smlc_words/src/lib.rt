@@ -14,3 +14,6 @@ pub mod words;
 pub use asked::Command;
 pub use flag::Flag;
 pub use words::command;
+
+#[cfg(test)]
+mod tests;

@@ -3,7 +3,7 @@
 ghost use Rattle.std.specs.Prelude.{◌≡◌, List, ℕ, length, map, codes, string_bytes, IfOk, IfSome, IfNone};
 ghost use Rattle.smlc_words.specs.Given.{Given, nothing, IsGiven};
 ghost use Rattle.smlc_words.specs.Arguments.{given};
-ghost use Rattle.smlc_words.specs.Asks.{Asked, Asks, AreFiles, AreNumbers, IsFor, asked};
+ghost use Rattle.smlc_words.specs.Asks.{Asked, Asks, AreFiles, AreNumbers, IsAnswer, asked};
 ghost use Rattle.smlc_words.specs.Laws.{IsInRange};
 
 use crate::arguments::Arguments;
@@ -31,8 +31,7 @@ pub fn command<'a>(alloc: Global, words: &'a [String]) -> Result<Option<Command<
 
 /// The command of this name.
 fn command_of<'a>(name: &str, arguments: Arguments<'a>) -> Option<Command<'a>>
-    ensures some { IfSome result (λ c. IsFor name.now (given arguments.entry) (asked c)) }
-    ensures none { IfNone result ((a : Asked) → IsFor name.now (given arguments.entry) a → ⊥) }
+    ensures { IsAnswer name.now (given arguments.entry) result }
 {
     match name {
         "compile" => compile(arguments),
@@ -48,10 +47,16 @@ fn command_of<'a>(name: &str, arguments: Arguments<'a>) -> Option<Command<'a>>
 }
 
 fn compile<'a>(arguments: Arguments<'a>) -> Option<Command<'a>>
-    ensures some { IfSome result (λ c. IsFor (codes "compile") (given arguments.entry) (asked c)) }
-    ensures none { IfNone result ((a : Asked) → IsFor (codes "compile") (given arguments.entry) a → ⊥) }
+    ensures { IsAnswer (codes "compile") (given arguments.entry) result }
 {
-    let Arguments { operands, out: Some(out), arena, steps: None, stride: None } = arguments else {
+    let Arguments {
+        operands,
+        out: Some(out),
+        arena,
+        steps: None,
+        stride: None,
+    } = arguments
+    else {
         return None;
     };
     let files = files(operands)?;
@@ -59,32 +64,59 @@ fn compile<'a>(arguments: Arguments<'a>) -> Option<Command<'a>>
 }
 
 fn run<'a>(arguments: Arguments<'a>) -> Option<Command<'a>>
-    ensures some { IfSome result (λ c. IsFor (codes "run") (given arguments.entry) (asked c)) }
-    ensures none { IfNone result ((a : Asked) → IsFor (codes "run") (given arguments.entry) a → ⊥) }
+    ensures { IsAnswer (codes "run") (given arguments.entry) result }
 {
-    let Arguments { operands, out: None, arena, steps, stride: None } = arguments else {
+    let Arguments {
+        operands,
+        out: None,
+        arena,
+        steps,
+        stride: None,
+    } = arguments
+    else {
         return None;
     };
     let files = files(operands)?;
-    Some(Command::Run { files, arena, steps })
+    Some(Command::Run {
+        files,
+        arena,
+        steps,
+    })
 }
 
 fn meter<'a>(arguments: Arguments<'a>) -> Option<Command<'a>>
-    ensures some { IfSome result (λ c. IsFor (codes "meter") (given arguments.entry) (asked c)) }
-    ensures none { IfNone result ((a : Asked) → IsFor (codes "meter") (given arguments.entry) a → ⊥) }
+    ensures { IsAnswer (codes "meter") (given arguments.entry) result }
 {
-    let Arguments { operands, out: None, arena, steps, stride } = arguments else {
+    let Arguments {
+        operands,
+        out: None,
+        arena,
+        steps,
+        stride,
+    } = arguments
+    else {
         return None;
     };
     let files = files(operands)?;
-    Some(Command::Meter { files, arena, steps, stride })
+    Some(Command::Meter {
+        files,
+        arena,
+        steps,
+        stride,
+    })
 }
 
 fn exec<'a>(arguments: Arguments<'a>) -> Option<Command<'a>>
-    ensures some { IfSome result (λ c. IsFor (codes "exec") (given arguments.entry) (asked c)) }
-    ensures none { IfNone result ((a : Asked) → IsFor (codes "exec") (given arguments.entry) a → ⊥) }
+    ensures { IsAnswer (codes "exec") (given arguments.entry) result }
 {
-    let Arguments { operands, out: None, arena: None, steps, stride: None } = arguments else {
+    let Arguments {
+        operands,
+        out: None,
+        arena: None,
+        steps,
+        stride: None,
+    } = arguments
+    else {
         return None;
     };
     match operands.as_slice() {
@@ -94,10 +126,16 @@ fn exec<'a>(arguments: Arguments<'a>) -> Option<Command<'a>>
 }
 
 fn types<'a>(arguments: Arguments<'a>) -> Option<Command<'a>>
-    ensures some { IfSome result (λ c. IsFor (codes "types") (given arguments.entry) (asked c)) }
-    ensures none { IfNone result ((a : Asked) → IsFor (codes "types") (given arguments.entry) a → ⊥) }
+    ensures { IsAnswer (codes "types") (given arguments.entry) result }
 {
-    let Arguments { operands, out: None, arena: None, steps: None, stride: None } = arguments else {
+    let Arguments {
+        operands,
+        out: None,
+        arena: None,
+        steps: None,
+        stride: None,
+    } = arguments
+    else {
         return None;
     };
     let files = files(operands)?;
@@ -105,10 +143,16 @@ fn types<'a>(arguments: Arguments<'a>) -> Option<Command<'a>>
 }
 
 fn plan<'a>(arguments: Arguments<'a>) -> Option<Command<'a>>
-    ensures some { IfSome result (λ c. IsFor (codes "plan") (given arguments.entry) (asked c)) }
-    ensures none { IfNone result ((a : Asked) → IsFor (codes "plan") (given arguments.entry) a → ⊥) }
+    ensures { IsAnswer (codes "plan") (given arguments.entry) result }
 {
-    let Arguments { operands, out: None, arena: None, steps: None, stride: None } = arguments else {
+    let Arguments {
+        operands,
+        out: None,
+        arena: None,
+        steps: None,
+        stride: None,
+    } = arguments
+    else {
         return None;
     };
     let files = files(operands)?;
@@ -116,10 +160,16 @@ fn plan<'a>(arguments: Arguments<'a>) -> Option<Command<'a>>
 }
 
 fn generate<'a>(arguments: Arguments<'a>) -> Option<Command<'a>>
-    ensures some { IfSome result (λ c. IsFor (codes "gen") (given arguments.entry) (asked c)) }
-    ensures none { IfNone result ((a : Asked) → IsFor (codes "gen") (given arguments.entry) a → ⊥) }
+    ensures { IsAnswer (codes "gen") (given arguments.entry) result }
 {
-    let Arguments { operands, out: None, arena: None, steps: None, stride: None } = arguments else {
+    let Arguments {
+        operands,
+        out: None,
+        arena: None,
+        steps: None,
+        stride: None,
+    } = arguments
+    else {
         return None;
     };
     let (number, size) = numbers(&operands)?;
@@ -127,10 +177,16 @@ fn generate<'a>(arguments: Arguments<'a>) -> Option<Command<'a>>
 }
 
 fn bench<'a>(arguments: Arguments<'a>) -> Option<Command<'a>>
-    ensures some { IfSome result (λ c. IsFor (codes "bench") (given arguments.entry) (asked c)) }
-    ensures none { IfNone result ((a : Asked) → IsFor (codes "bench") (given arguments.entry) a → ⊥) }
+    ensures { IsAnswer (codes "bench") (given arguments.entry) result }
 {
-    let Arguments { operands, out: None, arena: None, steps: None, stride: None } = arguments else {
+    let Arguments {
+        operands,
+        out: None,
+        arena: None,
+        steps: None,
+        stride: None,
+    } = arguments
+    else {
         return None;
     };
     let (number, size) = numbers(&operands)?;
