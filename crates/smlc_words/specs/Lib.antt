@@ -1,0 +1,4 @@
+pub mod Given
+pub mod Arguments
+pub mod Asks
+pub mod Laws
