@@ -1,5 +1,5 @@
 -- How an image lies in memory that is written.
-use Rattle.std.specs.Prelude.{ℕ, ◌≡◌, ◌+◌, ◌-◌, ◌*◌, ◌/◌, List, [], ◌∷◌, ◌++◌, length, replicate}
+use Rattle.std.specs.Prelude.{ℕ, ◌≡◌, ◌+◌, ◌-◌, ◌*◌, ◌/◌, List, [], ◌∷◌, length}
 use Rattle.elf_static.specs.declared.image.Image.{Image}
 use Rattle.elf_static.specs.declared.image.Segment.{Segment}
 use Rattle.elf_static.specs.Load.{IsLoadable}

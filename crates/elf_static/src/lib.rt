@@ -23,3 +23,6 @@ pub use headers::{FileHeader, ProgramHeader, SectionHeader};
 pub use image::{Entries, EntryRow, Image, Segment};
 pub use reading::read_elf;
 pub use writing::write_elf;
+
+#[cfg(test)]
+mod tests;

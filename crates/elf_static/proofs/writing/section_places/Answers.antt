@@ -1,5 +1,5 @@
-use Rattle.std.proofs.Common.{◌≡◌, ◌<◌, ◌+◌, ℕ, arith, ap, subst, sym, length}
-use Rattle.elf_static.specs.Writing.{names, segment_bytes, padded}
+use Rattle.std.proofs.Common.{arith, ap, length}
+use Rattle.elf_static.specs.Writing.{segment_bytes}
 use Rattle.elf_static.proofs.Lengths.{length-table_bytes, length-padded8}
 use Rattle.elf_static.proofs.Padding.{above8}
 use Rattle.elf_static.proofs.writing.section_places.Goals as goal
