@@ -85,7 +85,7 @@ fn segment(alloc: Global, bytes: &[u8], p: &ProgramHeader) -> Result<Segment, El
     Ok(Segment {
         address: p.address,
         flags: p.flags,
-        bytes: Row::from_vec(bytes[start..end].to_vec(alloc)?),
+        bytes: Row::from_vec(Vec::from_slice(alloc, &bytes[start..end])?),
         size: p.memory_size,
     })
 }

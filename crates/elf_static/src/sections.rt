@@ -222,7 +222,7 @@ fn first_of(alloc: Global, bytes: &[u8], sections: &[SectionHeader]) -> Result<R
 {
     match sections {
         [] => Ok(Row::new(alloc)),
-        [first, ..] => Ok(Row::from_vec(bytes_of(bytes, first).to_vec(alloc)?)),
+        [first, ..] => Ok(Row::from_vec(Vec::from_slice(alloc, bytes_of(bytes, first))?)),
     }
 }
 
