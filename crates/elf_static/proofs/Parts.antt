@@ -14,6 +14,7 @@ use Rattle.elf_static.specs.Writing.{padded, ident, fields, file_fields, program
 use Rattle.elf_static.proofs.FieldsRead.{piece_at, drop_all}
 use Rattle.elf_static.proofs.HeadersRead.{file_header_of, file_read, length-program, length-section, program_headers_of, programs_read, section_header_of, section_step}
 use Rattle.elf_static.proofs.Lengths.{length-padded}
+use Rattle.elf_static.proofs.Padding.{above4096}
 use Rattle.elf_static.proofs.SegmentsRead.{StandAt, stand}
 
 abbrev pub sections_of : Image → List SectionHeader
@@ -118,7 +119,7 @@ module _ (image : Image) (fit : NumbersFit image) (three : length image.segments
       length-append (ident ++ file_part) programs ∙ omega (arith, front, length-programs 4096 image.segments, three)
 
   length-a : length a ≡ 4096
-  length-a = length-padded (headers image) ∙ ap (round_up 4096) length-headers
+  length-a = length-padded 4096 (headers image) (above4096 (length (headers image))).0 ∙ ap (round_up 4096) length-headers
 
   length-ab : entries_at image ≡ length (a ++ b)
   length-ab = sym (length-append a b ∙ ap (λ n. n + length b) length-a)

@@ -18,7 +18,7 @@ use Rattle.elf_static.specs.Writing.{ident, names, table_bytes, padded, entries_
 use Rattle.elf_static.specs.Layout.{IsLaidOut}
 use Rattle.elf_static.specs.Reading.{size_check, header_checks, later_checks, checks_under, image_under, answer, meaning_of}
 use Rattle.elf_static.proofs.HeadersRead.{file_header_of, section_header_of}
-use Rattle.elf_static.proofs.Lengths.{length-padded8}
+use Rattle.elf_static.proofs.Lengths.{length-padded}
 use Rattle.elf_static.proofs.Loading.{Loads}
 use Rattle.elf_static.proofs.Padding.{above8}
 use Rattle.elf_static.proofs.Parts.{Parts, parts, sections_of}
@@ -95,7 +95,7 @@ module _ (file : List ℕ) (image : Image) (p : Parts file image) (loadable : Is
 
   none_past_end : list_any (passes_end file) (sections_of image) ≡ false
   none_past_end =
-      let plan : length image.plan ≤ length (padded 8 image.plan) = omega (arith, length-padded8 image.plan, (above8 (length image.plan)).0) in
+      let plan : length image.plan ≤ length (padded 8 image.plan) = let above = (above8 (length image.plan)).0 in omega (arith, length-padded 8 image.plan above) in
       or_from _ _ (le-ltb (length file) (plan_at image) (omega (arith, p.size)))
       (or_from _ _ (le-ltb (length file) (plan_at image + length image.plan) (omega (arith, p.size, plan)))
       (or_from _ _ (le-ltb (length file) (names_at image + 34) (omega (arith, p.size))) refl))

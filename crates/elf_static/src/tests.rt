@@ -245,3 +245,10 @@ fn a_file_without_sections_is_read(rt: HostRuntime) -> Result<(), Fail> {
     assert!(rt; image.plan.is_empty());
     Ok(())
 }
+
+#[test]
+fn an_error_is_printed(rt: HostRuntime) -> Result<(), Fail> {
+    let text = format!(in rt.alloc(); "{}", ElfError::NotElf(ElfKind::FileType, 16))?;
+    assert_eq!(rt; text.as_str(), "not elf Type at 16");
+    Ok(())
+}

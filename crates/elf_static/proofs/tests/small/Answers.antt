@@ -1,11 +1,10 @@
-use Rattle.std.proofs.Common.{◌≡◌, ℕ, List, [], ◌∷◌, refl, sym, ap, subst, ◌∙◌, arith, inl, inr, rules}
-use Rattle.std.specs.Prelude.{All, AllPairs}
+use Rattle.std.proofs.Common.{◌≡◌, ℕ, List, [], ◌∷◌, refl, sym, subst, arith, inl, inr, rules}
+use Rattle.std.specs.Prelude.{AllPairs}
 use Rattle.std.proofs.lemmas.List.Elements.{All-from_recursion}
 use Rattle.std.proofs.lemmas.List.Kept.{AllPairs-cons}
 use Rattle.smlc_base.specs.declared.point.PointKind.TheVariants as kinds
 use Rattle.elf_static.specs.declared.image.EntryRow.{EntryRow}
 use Rattle.elf_static.specs.declared.image.Entries.{Entries}
-use Rattle.elf_static.specs.declared.image.Image.{Image}
 use Rattle.elf_static.specs.declared.image.Segment.{Segment}
 use Rattle.elf_static.specs.Layout.{text_segment, read_only_segment, writable_segment, IsLaidOut}
 use Rattle.elf_static.specs.Load.{IsFilled, EndsInRange, IsApart}
