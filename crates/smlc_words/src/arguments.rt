@@ -22,7 +22,8 @@ pub struct Arguments<'a> {
 /// Sets what isn't set, if there is a value, and answers whether it did.
 fn set_once<T: Copy>(option: &mut Option<T>, value: Option<T>) -> bool
     ensures set { IsTrue result → (option.old ≡ None) × IsSome value × (option.new ≡ value) }
-    ensures kept { IsFalse result → (option.old ≡ None) × IsSome value → ⊥ }
+    ensures refused { IsFalse result → (option.old ≡ None) × IsSome value → ⊥ }
+    ensures kept { IsFalse result → option.new ≡ option.old }
 {
     if option.is_some() || value.is_none() {
         return false;
@@ -48,7 +49,8 @@ impl<'a> Arguments<'a> {
     /// Sets the option, and answers whether it did: it wasn't given before, and has this value.
     fn set(&mut self, flag: Flag, word: &'a str) -> bool
         ensures set { IsTrue result → Takes flag word.now (given self.old) (given self.new) }
-        ensures kept { IsFalse result → (then : Given) → Takes flag word.now (given self.old) then → ⊥ }
+        ensures refused { IsFalse result → (then : Given) → Takes flag word.now (given self.old) then → ⊥ }
+        ensures kept { IsFalse result → given self.new ≡ given self.old }
     {
         match flag {
             Flag::Out => set_once(&mut self.out, Some(word).filter(|word| is_operand(word))),

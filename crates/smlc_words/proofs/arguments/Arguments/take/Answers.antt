@@ -11,7 +11,7 @@ returns-then-set-clause-some c =
 pub returns-else-set-clause-none : goal.returns-else-set-clause-none
 returns-else-set-clause-none c h =
     value_refused string_bytes c.args.words.now c.word-item.result c.value-item.result _ _ c.in-Some.flag _ c.in-len1-up.len_at_least c.word-item.is c.as_str-word.ensures.value
-    c.in-len1-up-rest.len_at_least c.value-item.is c.deref.ensures c.in-Some.ensures.some (c.set.ensures.kept c.if-set.false)
+    c.in-len1-up-rest.len_at_least c.value-item.is c.deref.ensures c.in-Some.ensures.some (c.set.ensures.refused c.if-set.false)
 
 pub returns-in_ok-push-in-None-clause-some : goal.returns-in_ok-push-in-None-clause-some
 returns-in_ok-push-in-None-clause-some c =
