@@ -1,24 +1,22 @@
 -- What passes all checks can be loaded, and its table of entries is right.
-use Rattle.std.proofs.Common.{◌≡◌, ℕ, zero, suc, ◌+◌, ◌*◌, ◌<◌, ◌≤◌, ◌^◌, Bool, true, false, List, [], ◌∷◌, ◌++◌, length, get_or, take, drop, Some, None, Result, Ok, Err, refl, sym, ap, subst, ◌∙◌, arith, inl, inr}
-use Rattle.std.specs.Prelude.{◌&&◌, ◌==◌, not, nat_lt, map, IfOk, if◌then◌else◌}
-use Rattle.std.proofs.lemmas.Bool.{and_parts, or_parts, not-false, ltb-false, eqb-true, cases_lt}
+use Rattle.std.proofs.Common.{◌≡◌, ℕ, ◌+◌, ◌<◌, ◌≤◌, ◌^◌, Bool, true, false, List, [], ◌∷◌, ◌++◌, length, get_or, take, drop, None, Result, Ok, Err, refl, sym, subst, arith, inl, inr}
+use Rattle.std.specs.Prelude.{◌&&◌, ◌==◌, nat_lt, map, IfOk, if◌then◌else◌}
+use Rattle.std.proofs.lemmas.Bool.{and_parts, or_parts, not-false, ltb-false, cases_lt}
 use Rattle.std.proofs.lemmas.List.{get_or-drop, get_or-take, get_or_past, length-take}
 use Rattle.elf_static.specs.declared.error.ElfError.{ElfError}
-use Rattle.elf_static.specs.declared.error.ElfError.TheVariants.{NotElf, NoMemory}
 use Rattle.elf_static.specs.declared.headers.FileHeader.{FileHeader}
 use Rattle.elf_static.specs.declared.headers.SectionHeader.{SectionHeader}
 use Rattle.elf_static.specs.declared.image.Image.{Image}
-use Rattle.elf_static.specs.declared.image.Entries.{Entries}
 use Rattle.elf_static.specs.declared.image.Segment.{Segment}
 use Rattle.elf_static.specs.Checks.{first_failed, Passes}
 use Rattle.elf_static.specs.Headers.{program_header}
-use Rattle.elf_static.specs.Load.{HasRoom, IsLoadable}
+use Rattle.elf_static.specs.Load.{IsLoadable}
 use Rattle.elf_static.specs.Numbers.{number}
 use Rattle.elf_static.specs.Programs.{program_headers, program_checks, segments_of, entry_check}
-use Rattle.elf_static.specs.Sections.{has_bytes, section_bytes, section_headers, section_checks, table_check, right_checks, single_checks, table_checks, tables_of, entries_of}
+use Rattle.elf_static.specs.Sections.{has_bytes, section_bytes, section_headers, section_checks, right_checks, single_checks, table_checks, tables_of, entries_of}
 use Rattle.elf_static.specs.Table.{address_of, are_numbered, are_distinct, entries_in, entry_row, no_entries, has_arena, has_form, has_kinds, is_right, IsRightTable}
 use Rattle.elf_static.specs.Reading.{size_check, header_checks, later_checks, checks_under, image_under}
-use Rattle.elf_static.proofs.Loading.{Loads, all_load, none_load, few, entry_fits}
+use Rattle.elf_static.proofs.Loading.{all_load, none_load, few, entry_fits}
 use Rattle.elf_static.proofs.Passing.{front_passes, back_passes, none_fails}
 use Rattle.elf_static.proofs.Rights.{labels-from_test, addresses-from_test, arena-from_test}
 use Rattle.elf_static.proofs.Tables.{length-table}
@@ -32,11 +30,13 @@ drop_bytes : (n : ℕ) (bytes : List ℕ) → IsBytes bytes → IsBytes (drop n 
 drop_bytes n bytes h = record { below = λ i. rw get_or-drop (h.below (n + i)) }
 
 take_bytes : (n : ℕ) (bytes : List ℕ) → IsBytes bytes → IsBytes (take n bytes)
-take_bytes n bytes h = record { below = λ i.
-    elim (cases_lt i n) [
-      | inl lt ↦ rw (get_or-take n bytes i 0 lt) (h.below i)
-      | inr le ↦ rw (get_or_past (take n bytes) i 0 (omega (arith, length-take n bytes))) (omega arith)
-    ] }
+take_bytes n bytes h = record {
+  below = λ i.
+      elim (cases_lt i n) [
+        | inl lt ↦ rw (get_or-take n bytes i 0 lt) (h.below i)
+        | inr le ↦ rw (get_or_past (take n bytes) i 0 (omega (arith, length-take n bytes))) (omega arith)
+      ];
+}
 
 section_is_bytes : (file : List ℕ) (s : SectionHeader) → IsBytes file → IsBytes (section_bytes file s)
 section_is_bytes file s h = go (has_bytes s)

@@ -1,6 +1,5 @@
 -- Fields that were written are read.
-use Rattle.std.proofs.Common.{◌≡◌, ℕ, zero, suc, ◌+◌, ◌<◌, ◌≤◌, ◌^◌, List, [], ◌∷◌, ◌++◌, length, take, drop, refl, sym, ap, subst, ◌∙◌, append_assoc, arith, length-append}
-use Rattle.std.proofs.lemmas.List.{take_at, drop_at, append-nil}
+use Rattle.std.proofs.Common.{◌≡◌, ℕ, suc, ◌+◌, List, [], ◌∷◌, ◌++◌, length, take, drop, refl, sym, ap, subst, ◌∙◌, append_assoc, arith, length-append}
 use Rattle.std.proofs.lemmas.List.Concat.{flat_map-cons}
 use Rattle.byteorder.specs.Endian.{little_from}
 use Rattle.byteorder.specs.Numbers.{little_number-reads_back}
@@ -66,12 +65,12 @@ go_on [] front rest at e fits = tt
 go_on (f ∷ fs) front rest at e fits =
     let parts : fields (f ∷ fs) ++ rest ≡ field_bytes f ++ (fields fs ++ rest) = ap (λ (xs : List ℕ). xs ++ rest) (flat_map-cons field_bytes f fs) ∙ append_assoc (field_bytes f) (fields fs) rest in
     let here : number (width f) at (front ++ (field_bytes f ++ (fields fs ++ rest))) ≡ value f =
-        ap (λ n. number (width f) n (front ++ (field_bytes f ++ (fields fs ++ rest)))) e ∙ number_behind (width f) front (field_bytes f ++ (fields fs ++ rest)) ∙ number_here f (fields fs ++ rest) fits.0 in
+    ap (λ n. number (width f) n (front ++ (field_bytes f ++ (fields fs ++ rest)))) e ∙ number_behind (width f) front (field_bytes f ++ (fields fs ++ rest)) ∙ number_here f (fields fs ++ rest) fits.0 in
     let joined = length-append front (field_bytes f) in
     let place : at + width f ≡ length (front ++ field_bytes f) = omega (arith, joined, length-field f) in
     let behind : AreRead (at + width f) fs ((front ++ field_bytes f) ++ (fields fs ++ rest)) = go_on fs (front ++ field_bytes f) rest (at + width f) place fits.1 in
     subst (AreRead at (f ∷ fs)) (ap (λ (xs : List ℕ). front ++ xs) (sym parts))
-      (here, subst (AreRead (at + width f) fs) (append_assoc front (field_bytes f) (fields fs ++ rest)) behind)
+    (here, subst (AreRead (at + width f) fs) (append_assoc front (field_bytes f) (fields fs ++ rest)) behind)
 
 -- what was written is read, behind any front
 pub are_read : (fs : List Field) (front rest : List ℕ) → FieldsFit fs → AreRead (length front) fs (front ++ (fields fs ++ rest))

@@ -1,5 +1,5 @@
 -- Headers that were written are read.
-use Rattle.std.proofs.Common.{◌≡◌, ℕ, zero, suc, ◌+◌, List, [], ◌∷◌, ◌++◌, length, drop, refl, sym, ap, ◌∙◌, append_assoc}
+use Rattle.std.proofs.Common.{◌≡◌, ℕ, suc, ◌+◌, List, [], ◌∷◌, ◌++◌, length, refl, ap, ◌∙◌, append_assoc}
 use Rattle.elf_static.specs.declared.headers.FileHeader.{FileHeader}
 use Rattle.elf_static.specs.declared.headers.ProgramHeader.{ProgramHeader}
 use Rattle.elf_static.specs.declared.headers.SectionHeader.{SectionHeader}

@@ -1,5 +1,5 @@
 -- How long the parts of a written file are.
-use Rattle.std.proofs.Common.{◌≡◌, ℕ, zero, suc, ◌+◌, ◌-◌, ◌*◌, ◌/◌, ◌<◌, ◌≤◌, ◌^◌, List, [], ◌∷◌, ◌++◌, length, refl, sym, ap, subst, ◌∙◌, arith, length-append}
+use Rattle.std.proofs.Common.{◌≡◌, ℕ, ◌+◌, ◌-◌, ◌*◌, ◌<◌, ◌≤◌, ◌^◌, List, [], ◌∷◌, ◌++◌, length, refl, ap, subst, ◌∙◌, arith, length-append}
 use Rattle.std.specs.Prelude.{replicate, codes, sum_by}
 use Rattle.std.specs.List.{flat_map}
 use Rattle.std.proofs.Math.ListN.{length-replicate}
@@ -29,15 +29,11 @@ length-table_bytes e =
     let front : length (codes "SMLE" ++ fields (table_fields e)) ≡ 40 = refl in
     length-append (codes "SMLE" ++ fields (table_fields e)) (flat_map row_bytes e.rows) ∙ omega (arith, front, length-rows e.rows)
 
-pub length-padded : (bytes : List ℕ) → length (padded 4096 bytes) ≡ round_up 4096 (length bytes)
-length-padded bytes =
-    let joined = length-append bytes (replicate (round_up 4096 (length bytes) - length bytes) 0) in
-    omega (arith, joined, length-replicate {A = ℕ} (round_up 4096 (length bytes) - length bytes) 0)
-
-pub length-padded8 : (bytes : List ℕ) → length (padded 8 bytes) ≡ round_up 8 (length bytes)
-length-padded8 bytes =
-    let joined = length-append bytes (replicate (round_up 8 (length bytes) - length bytes) 0) in
-    omega (arith, joined, length-replicate {A = ℕ} (round_up 8 (length bytes) - length bytes) 0)
+-- where the next multiple isn't below
+pub length-padded : (n : ℕ) (bytes : List ℕ) → length bytes ≤ round_up n (length bytes) → length (padded n bytes) ≡ round_up n (length bytes)
+length-padded n bytes above =
+    let joined = length-append bytes (replicate (round_up n (length bytes) - length bytes) 0) in
+    omega (arith, joined, length-replicate {A = ℕ} (round_up n (length bytes) - length bytes) 0)
 
 abbrev three_segments : List ℕ → List ℕ → ℕ → ℕ → List Segment
 three_segments text read_only slots words = text_segment text ∷ read_only_segment text read_only ∷ writable_segment text read_only slots words ∷ []
@@ -52,4 +48,4 @@ laid_out_short image h =
     let third : length (padded 4096 [] ++ []) ≡ 0 = refl in
     let a = (above4096 (length h.text)).1 in
     let b = (above4096 (length h.read_only)).1 in
-    omega (arith, same, first, second, third, length-padded h.text, length-padded h.read_only)
+    omega (arith, same, first, second, third, length-padded 4096 h.text (above4096 (length h.text)).0, length-padded 4096 h.read_only (above4096 (length h.read_only)).0)

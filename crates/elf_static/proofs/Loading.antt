@@ -1,15 +1,14 @@
 -- What passes the checks of the program headers can be loaded.
-use Rattle.std.proofs.Common.{◌≡◌, ℕ, zero, suc, ◌+◌, ◌*◌, ◌%◌, ◌<◌, ◌≤◌, ◌^◌, Bool, true, false, cond, ltb, leb, eqb, List, [], ◌∷◌, ◌++◌, length, get_or, take, drop, All, Some, None, refl, sym, ap, subst, ◌∙◌, append_assoc, arith, inl, inr, length-append, length-take}
-use Rattle.std.specs.Prelude.{◌&&◌, ◌||◌, ◌==◌, ◌⊎◌, not, nat_lt, nat_le, sum_by, AllPairs, Any, if◌then◌else◌}
+use Rattle.std.proofs.Common.{◌≡◌, ℕ, zero, suc, ◌+◌, ◌%◌, ◌<◌, ◌≤◌, ◌^◌, Bool, true, false, ltb, leb, List, [], ◌∷◌, ◌++◌, length, get_or, drop, All, None, refl, sym, ap, subst, ◌∙◌, append_assoc, arith, inl, inr, length-take}
+use Rattle.std.specs.Prelude.{◌&&◌, ◌||◌, ◌==◌, ◌⊎◌, sum_by, AllPairs, Any, if◌then◌else◌}
 use Rattle.std.specs.List.{list_any, flat_map}
-use Rattle.std.proofs.lemmas.Bool.{both_ways, and_from, lt-ltb, and_parts, or_parts, not-false, ltb-true, ltb-false, leb-true, eqb-true, cases_Bool, cases_lt}
+use Rattle.std.proofs.lemmas.Bool.{both_ways, and_from, lt-ltb, and_parts, or_parts, not-false, ltb-true, ltb-false, leb-true, eqb-true, cases_lt}
 use Rattle.std.proofs.lemmas.List.{append-nil}
 use Rattle.std.proofs.lemmas.List.Concat.{flat_map-cons}
 use Rattle.std.proofs.lemmas.List.Elements.{All-push}
 use Rattle.std.proofs.lemmas.List.Folds.{Any-from_list_any}
 use Rattle.std.proofs.lemmas.List.Quantifiers.{all_pairs_push}
 use Rattle.std.proofs.lemmas.List.Sums.{sum_by_push}
-use Rattle.elf_static.specs.declared.checks.Check.{Check}
 use Rattle.elf_static.specs.declared.headers.ProgramHeader.{ProgramHeader}
 use Rattle.elf_static.specs.declared.image.Segment.{Segment}
 use Rattle.elf_static.specs.declared.error.ElfKind.TheVariants as kinds
@@ -17,7 +16,7 @@ use Rattle.elf_static.specs.Checks.{check, first_failed}
 use Rattle.elf_static.specs.Numbers.{piece}
 use Rattle.elf_static.specs.Load.{IsFilled, size_of, EndsInRange, IsApart, IsEntry}
 use Rattle.elf_static.specs.Programs.{segment_of, loaded, overlaps, load_checks, program_check, program_checks, is_executable_at, entry_check}
-use Rattle.elf_static.proofs.Passing.{front_passes, back_passes, NoneFails, none_fails}
+use Rattle.elf_static.proofs.Passing.{front_passes, back_passes, none_fails}
 
 -- what holds of the segments so far
 pub record Loads (ss : List Segment) : Type 0 where

@@ -1,5 +1,5 @@
 -- How much padding takes.
-use Rattle.std.proofs.Common.{◌≡◌, ℕ, ◌+◌, ◌-◌, ◌*◌, ◌/◌, ◌<◌, ◌≤◌, List, length, arith}
+use Rattle.std.proofs.Common.{ℕ, ◌+◌, ◌<◌, ◌≤◌, arith}
 use Rattle.elf_static.specs.Layout.{round_up}
 
 -- the next multiple is not below, and less than n above

@@ -1,5 +1,5 @@
 -- The parts of a written file, each where it stands.
-use Rattle.std.proofs.Common.{◌≡◌, ℕ, zero, suc, ◌+◌, ◌-◌, ◌*◌, ◌≤◌, List, [], ◌∷◌, ◌++◌, length, take, drop, refl, sym, ap, subst, ◌∙◌, append_assoc, arith, length-append}
+use Rattle.std.proofs.Common.{◌≡◌, ℕ, ◌+◌, ◌-◌, ◌*◌, List, [], ◌∷◌, ◌++◌, length, drop, refl, sym, ap, subst, ◌∙◌, append_assoc, arith, length-append}
 use Rattle.std.specs.Prelude.{replicate}
 use Rattle.std.proofs.lemmas.List.{append-nil}
 use Rattle.elf_static.specs.declared.headers.SectionHeader.{SectionHeader}
@@ -14,15 +14,16 @@ use Rattle.elf_static.specs.Writing.{padded, ident, fields, file_fields, program
 use Rattle.elf_static.proofs.FieldsRead.{piece_at, drop_all}
 use Rattle.elf_static.proofs.HeadersRead.{file_header_of, file_read, length-program, length-section, program_headers_of, programs_read, section_header_of, section_step}
 use Rattle.elf_static.proofs.Lengths.{length-padded}
+use Rattle.elf_static.proofs.Padding.{above4096}
 use Rattle.elf_static.proofs.SegmentsRead.{StandAt, stand}
 
 abbrev pub sections_of : Image → List SectionHeader
 sections_of image =
-  section_header_of 0 0 0 0
-  ∷ section_header_of 1 1 (entries_at image) (length (table_bytes image.entries))
-  ∷ section_header_of 14 1 (plan_at image) (length image.plan)
-  ∷ section_header_of 24 3 (names_at image) (length names)
-  ∷ []
+    section_header_of 0 0 0 0
+    ∷ section_header_of 1 1 (entries_at image) (length (table_bytes image.entries))
+    ∷ section_header_of 14 1 (plan_at image) (length image.plan)
+    ∷ section_header_of 24 3 (names_at image) (length names)
+    ∷ []
 
 -- what a file has that is read as the image
 pub record Parts (file : List ℕ) (image : Image) : Type 0 where
@@ -76,8 +77,8 @@ four_sections image fit =
     ap (table section_header 64 4) regrouped
     ∙ section_step 3 0 0 0 0 (x ++ (y ++ (z ++ []))) fit.empty
     ∙ ap (λ ss. section_header_of 0 0 0 0 ∷ ss) (section_step 2 1 1 (entries_at image) (length (table_bytes image.entries)) (y ++ (z ++ [])) fit.entries
-      ∙ ap (λ ss. section_header_of 1 1 (entries_at image) (length (table_bytes image.entries)) ∷ ss) (section_step 1 14 1 (plan_at image) (length image.plan) (z ++ []) fit.plan
-        ∙ ap (λ ss. section_header_of 14 1 (plan_at image) (length image.plan) ∷ ss) (section_step 0 24 3 (names_at image) (length names) [] fit.names)))
+    ∙ ap (λ ss. section_header_of 1 1 (entries_at image) (length (table_bytes image.entries)) ∷ ss) (section_step 1 14 1 (plan_at image) (length image.plan) (z ++ []) fit.plan
+    ∙ ap (λ ss. section_header_of 14 1 (plan_at image) (length image.plan) ∷ ss) (section_step 0 24 3 (names_at image) (length names) [] fit.names)))
 
 module _ (image : Image) (fit : NumbersFit image) (three : length image.segments ≡ 3) where
   abbrev zeros : ℕ → List ℕ → List ℕ
@@ -118,7 +119,7 @@ module _ (image : Image) (fit : NumbersFit image) (three : length image.segments
       length-append (ident ++ file_part) programs ∙ omega (arith, front, length-programs 4096 image.segments, three)
 
   length-a : length a ≡ 4096
-  length-a = length-padded (headers image) ∙ ap (round_up 4096) length-headers
+  length-a = length-padded 4096 (headers image) (above4096 (length (headers image))).0 ∙ ap (round_up 4096) length-headers
 
   length-ab : entries_at image ≡ length (a ++ b)
   length-ab = sym (length-append a b ∙ ap (λ n. n + length b) length-a)

@@ -1,14 +1,14 @@
 -- A table of entries is right as a fact where its test says so.
-use Rattle.std.proofs.Common.{◌≡◌, ◌≢◌, ℕ, zero, suc, ◌+◌, ◌*◌, ◌/◌, ◌%◌, ◌<◌, ◌≤◌, ◌^◌, Bool, true, false, ltb, leb, eqb, List, [], ◌∷◌, ◌++◌, length, get_or, take, drop, refl, sym, ap, subst, ◌∙◌, arith, inl, inr}
-use Rattle.std.specs.Prelude.{◌&&◌, ◌||◌, ◌==◌, ◌⊎◌, not, nat_lt, nat_le, map, AllPairs, Any, slice_index_or}
-use Rattle.std.specs.List.{list_any, list_all, IsDistinct}
-use Rattle.std.proofs.lemmas.Bool.{and_parts, and_from, or_cases, or_left, or_right, eqb-true, eq-eqb, ne_eqb, leb-true, le-leb, cases_Bool, eqb-false}
+use Rattle.std.proofs.Common.{◌≡◌, ℕ, zero, suc, ◌+◌, ◌*◌, ◌/◌, ◌%◌, ◌<◌, true, leb, eqb, List, [], ◌∷◌, length, get_or, refl, sym, ap, ◌∙◌, arith, inl, inr}
+use Rattle.std.specs.Prelude.{◌&&◌, ◌==◌, ◌⊎◌, map, AllPairs, Any}
+use Rattle.std.specs.List.{list_any}
+use Rattle.std.proofs.lemmas.Bool.{and_parts, and_from, or_cases, or_left, or_right, eqb-true, eq-eqb, ne_eqb, leb-true, le-leb, eqb-false}
 use Rattle.std.proofs.lemmas.List.Folds.{Any-from_list_any, list_any-from_Any}
 use Rattle.std.proofs.lemmas.Map.Keys.{apart_from_distinct, IsDistinct-from_apart}
 use Rattle.elf_static.specs.declared.image.EntryRow.{EntryRow}
 use Rattle.elf_static.specs.declared.image.Entries.{Entries}
 use Rattle.elf_static.specs.declared.image.Segment.{Segment}
-use Rattle.elf_static.specs.Table.{are_numbered, are_distinct, address_of, has_words, HoldsWords, has_arena, HasLabel, HaveOtherAddresses, IsRightTable}
+use Rattle.elf_static.specs.Table.{are_numbered, are_distinct, address_of, has_words, HoldsWords, has_arena, HasLabel, HaveOtherAddresses}
 use Rattle.elf_static.proofs.Distinct.{IsDistinct-from_test, test-from_IsDistinct}
 
 -- the labels
@@ -56,9 +56,9 @@ pub test-from_addresses : (rs : List EntryRow) → AllPairs HaveOtherAddresses r
 test-from_addresses [] h = refl
 test-from_addresses (r ∷ rs) h =
     test-from_IsDistinct (map address_of (r ∷ rs)) (IsDistinct-from_apart eqb (map address_of (r ∷ rs)) (λ i j d lt le.
-        let j_in : j < length (r ∷ rs) = omega (arith, le, length-addresses rs) in
-        let i_in : i < length (r ∷ rs) = omega arith in
-        ne_eqb _ _ (λ e. h i j r lt j_in (sym (get-inside (r ∷ rs) i d r i_in) ∙ e ∙ get-inside (r ∷ rs) j d r j_in))))
+    let j_in : j < length (r ∷ rs) = omega (arith, le, length-addresses rs) in
+    let i_in : i < length (r ∷ rs) = omega arith in
+    ne_eqb _ _ (λ e. h i j r lt j_in (sym (get-inside (r ∷ rs) i d r i_in) ∙ e ∙ get-inside (r ∷ rs) j d r j_in))))
 
 -- the arena
 words_held : (at words : ℕ) (s : Segment) → has_words at words s ≡ true → HoldsWords at words s
@@ -72,12 +72,12 @@ words_test at words s h = and_from _ _ (and_from _ _ (eq-eqb _ _ h.0) (le-leb _ 
 
 pub arena-from_test : (ss : List Segment) (e : Entries) → has_arena ss e ≡ true → (e.arena_words ≡ 0) ⊎ ((e.arena % 8 ≡ 0) × Any (HoldsWords e.arena e.arena_words) ss)
 arena-from_test ss e h = elim (or_cases (e.arena_words == 0) ((e.arena % 8 == 0) && list_any (has_words e.arena e.arena_words) ss) h) [
-    | inl none ↦ inl (eqb-true _ _ none)
-    | inr some ↦
+  | inl none ↦ inl (eqb-true _ _ none)
+  | inr some ↦
       let parts = and_parts (e.arena % 8 == 0) (list_any (has_words e.arena e.arena_words) ss) some in
       let found = Any-from_list_any (has_words e.arena e.arena_words) ss parts.1 in
       inr (eqb-true _ _ parts.0, (found.0, found.1, found.2, found.3, words_held e.arena e.arena_words found.1 found.4))
-  ]
+]
 
 pub test-from_arena : (ss : List Segment) (e : Entries) → (e.arena_words ≡ 0) ⊎ ((e.arena % 8 ≡ 0) × Any (HoldsWords e.arena e.arena_words) ss) → has_arena ss e ≡ true
 test-from_arena ss e (inl none) = or_left (e.arena_words == 0) ((e.arena % 8 == 0) && list_any (has_words e.arena e.arena_words) ss) (eq-eqb _ _ none)

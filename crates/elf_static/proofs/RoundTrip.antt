@@ -1,27 +1,24 @@
 -- A file with the parts of an image is read as the image.
-use Rattle.std.proofs.Common.{◌≡◌, ℕ, zero, suc, ◌+◌, ◌-◌, ◌*◌, ◌%◌, ◌<◌, ◌≤◌, Bool, true, false, List, [], ◌∷◌, ◌++◌, length, take, drop, Some, None, Result, Ok, Err, refl, sym, ap, subst, ◌∙◌, arith, length-append}
-use Rattle.std.specs.Prelude.{◌&&◌, ◌||◌, ◌==◌, not, nat_lt, nat_le, codes, slice_index, slice_get, filter, IfOk, Any}
+use Rattle.std.proofs.Common.{◌≡◌, ℕ, ◌+◌, ◌≤◌, true, false, List, [], ◌∷◌, ◌++◌, length, None, Result, Ok, Err, refl, sym, ap, ◌∙◌, arith}
+use Rattle.std.specs.Prelude.{◌==◌, not, codes, slice_index, filter, IfOk}
 use Rattle.std.specs.List.{list_any, list_all, flat_map}
 use Rattle.std.proofs.lemmas.Bool.{and_from, or_from, not_from_true, eq-eqb, le-leb, lt-ltb, le-ltb}
 use Rattle.std.proofs.lemmas.List.Folds.{list_any-from_Any}
 use Rattle.std.specs.Global.{Vec}
 use Rattle.smlc_base.specs.declared.memory.NoMemory.{NoMemory}
 use Rattle.elf_static.specs.declared.headers.FileHeader.{FileHeader}
-use Rattle.elf_static.specs.declared.headers.SectionHeader.{SectionHeader}
 use Rattle.elf_static.specs.declared.image.Image.{Image}
 use Rattle.elf_static.specs.declared.image.Segment.{Segment}
 use Rattle.elf_static.specs.Checks.{first_failed}
-use Rattle.elf_static.specs.Headers.{file_header}
 use Rattle.elf_static.specs.Load.{IsLoadable, IsEntry}
-use Rattle.elf_static.specs.Numbers.{piece}
 use Rattle.elf_static.specs.Programs.{loaded, program_headers, program_checks, segments_of, is_executable_at, entry_check}
-use Rattle.elf_static.specs.Sections.{section_headers, section_bytes, section_checks, passes_end, names_of, bytes_at, has_name, is_named, sections_named, table_check, table_checks, tables_of, entries_of, plan_of, first_bytes}
+use Rattle.elf_static.specs.Sections.{section_headers, section_bytes, section_checks, passes_end, names_of, has_name, is_named, sections_named, table_checks, tables_of, entries_of, plan_of, first_bytes}
 use Rattle.elf_static.specs.Table.{is_right, entries_in, IsRightTable}
 use Rattle.elf_static.specs.Writing.{ident, names, table_bytes, padded, entries_at, plan_at, names_at, sections_at, written, NumbersFit, EntriesFit}
-use Rattle.elf_static.specs.Layout.{round_up, IsLaidOut}
+use Rattle.elf_static.specs.Layout.{IsLaidOut}
 use Rattle.elf_static.specs.Reading.{size_check, header_checks, later_checks, checks_under, image_under, answer, meaning_of}
-use Rattle.elf_static.proofs.HeadersRead.{file_header_of, program_headers_of, section_header_of}
-use Rattle.elf_static.proofs.Lengths.{length-padded8}
+use Rattle.elf_static.proofs.HeadersRead.{file_header_of, section_header_of}
+use Rattle.elf_static.proofs.Lengths.{length-padded}
 use Rattle.elf_static.proofs.Loading.{Loads}
 use Rattle.elf_static.proofs.Padding.{above8}
 use Rattle.elf_static.proofs.Parts.{Parts, parts, sections_of}
@@ -50,10 +47,31 @@ module _ (file : List ℕ) (image : Image) (p : Parts file image) (loadable : Is
   header_passes : first_failed (size_check file ∷ header_checks file h) ≡ None
   header_passes =
       let ident_is = λ (at byte : ℕ). ap (λ b. not (b == byte)) (same_byte at) in
-      none_failed (size_check file ∷ header_checks file h)
-        (le-ltb (length file) 64 (omega (arith, long)),
-        (ident_is 0 0x7F, (ident_is 1 0x45, (ident_is 2 0x4C, (ident_is 3 0x46, (ident_is 4 2, (ident_is 5 1, (ident_is 6 1,
-        (refl, (refl, (refl, (refl, (refl, (refl, (refl, (le-ltb (length file) 232 (omega (arith, long)), tt))))))))))))))))
+      none_failed (size_check file ∷ header_checks file h) (
+        le-ltb (length file) 64 (omega (arith, long)),
+        (
+          ident_is 0 0x7F,
+          (
+            ident_is 1 0x45,
+            (
+              ident_is 2 0x4C,
+              (
+                ident_is 3 0x46,
+                (
+                  ident_is 4 2,
+                  (
+                    ident_is 5 1,
+                    (
+                      ident_is 6 1,
+                      (refl, (refl, (refl, (refl, (refl, (refl, (refl, (le-ltb (length file) 232 (omega (arith, long)), tt)))))))),
+                    ),
+                  ),
+                ),
+              ),
+            ),
+          ),
+        ),
+      )
 
   -- ---- the program headers and the entry
 
@@ -77,10 +95,10 @@ module _ (file : List ℕ) (image : Image) (p : Parts file image) (loadable : Is
 
   none_past_end : list_any (passes_end file) (sections_of image) ≡ false
   none_past_end =
-      let plan : length image.plan ≤ length (padded 8 image.plan) = omega (arith, length-padded8 image.plan, (above8 (length image.plan)).0) in
+      let plan : length image.plan ≤ length (padded 8 image.plan) = let above = (above8 (length image.plan)).0 in omega (arith, length-padded 8 image.plan above) in
       or_from _ _ (le-ltb (length file) (plan_at image) (omega (arith, p.size)))
-        (or_from _ _ (le-ltb (length file) (plan_at image + length image.plan) (omega (arith, p.size, plan)))
-          (or_from _ _ (le-ltb (length file) (names_at image + 34) (omega (arith, p.size))) refl))
+      (or_from _ _ (le-ltb (length file) (plan_at image + length image.plan) (omega (arith, p.size, plan)))
+      (or_from _ _ (le-ltb (length file) (names_at image + 34) (omega (arith, p.size))) refl))
 
   sections_are_right : first_failed (section_checks file h (section_headers file h)) ≡ None
   sections_are_right =

@@ -1,5 +1,5 @@
 -- The checks of the tables of entries, one behind the other.
-use Rattle.std.proofs.Common.{◌≡◌, ℕ, suc, ◌+◌, ◌<◌, Bool, true, false, List, [], ◌∷◌, ◌++◌, Some, None, Result, Ok, Err, length, get_or, drop, refl, sym, ap, subst, ◌∙◌, arith, drop-cons, add-one}
+use Rattle.std.proofs.Common.{◌≡◌, ℕ, ◌+◌, ◌<◌, Bool, true, false, List, [], ◌∷◌, ◌++◌, Some, None, Err, length, get_or, drop, refl, sym, ap, subst, ◌∙◌, arith, drop-cons, add-one}
 use Rattle.std.specs.Prelude.{filter, if◌then◌else◌}
 use Rattle.std.specs.List.{list_any}
 use Rattle.std.proofs.lemmas.Bool.{or_parts, or_from}
@@ -11,7 +11,7 @@ use Rattle.elf_static.specs.declared.image.Segment.{Segment}
 use Rattle.elf_static.specs.Checks.{first_failed, Passes}
 use Rattle.elf_static.specs.declared.headers.FileHeader.{FileHeader}
 use Rattle.elf_static.specs.Sections.{names_of, is_named, sections_named, section_headers, table_check, right_checks, single_checks, passes_end}
-use Rattle.elf_static.proofs.Passing.{passes_in_front, passes_behind, passes_same, first_behind}
+use Rattle.elf_static.proofs.Passing.{passes_in_front, passes_same, first_behind}
 
 opened : (tables : List SectionHeader) (i : ℕ) (d : SectionHeader) → i < length tables → drop i tables ≡ get_or tables i d ∷ drop (i + 1) tables
 opened tables i d inside = rw add-one (drop-cons tables i d inside)

@@ -1,9 +1,8 @@
 -- A table of entries that was written is right, and read as the same entries.
-use Rattle.std.proofs.Common.{◌≡◌, ℕ, zero, suc, ◌+◌, ◌*◌, ◌<◌, ◌≤◌, Bool, true, false, List, [], ◌∷◌, ◌++◌, length, drop, All, refl, sym, ap, subst, ◌∙◌, append_assoc, arith}
-use Rattle.std.specs.Prelude.{◌&&◌, ◌==◌, nat_lt, nat_eq, map, codes}
-use Rattle.std.specs.List.{list_all, list_any, flat_map, starts_with}
-use Rattle.std.proofs.lemmas.Bool.{and_from, eq-eqb, lt-ltb}
-use Rattle.std.proofs.lemmas.List.{append-nil}
+use Rattle.std.proofs.Common.{◌≡◌, ℕ, suc, ◌+◌, ◌*◌, true, List, [], ◌∷◌, ◌++◌, length, drop, All, refl, sym, ap, subst, ◌∙◌, append_assoc}
+use Rattle.std.specs.Prelude.{nat_lt, nat_eq, map, codes}
+use Rattle.std.specs.List.{list_all, flat_map, starts_with}
+use Rattle.std.proofs.lemmas.Bool.{and_from, eq-eqb}
 use Rattle.std.proofs.lemmas.List.Concat.{flat_map-cons}
 use Rattle.std.proofs.lemmas.List.Elements.{All-head, All-tail}
 use Rattle.smlc_base.specs.declared.point.PointKind.{PointKind}
@@ -53,7 +52,7 @@ kinds_read [] fit = refl
 kinds_read (r ∷ rs) fit =
     let rest = flat_map row_bytes rs in
     let opened : table kind_number 24 (length (r ∷ rs)) (flat_map row_bytes (r ∷ rs)) ≡ kind_number (row_bytes r ++ rest) ∷ table kind_number 24 (length rs) rest =
-        ap (table kind_number 24 (suc (length rs))) (flat_map-cons row_bytes r rs) ∙ table_step kind_number 24 (length rs) (row_bytes r) rest (length-row r) in
+    ap (table kind_number 24 (suc (length rs))) (flat_map-cons row_bytes r rs) ∙ table_step kind_number 24 (length rs) (row_bytes r) rest (length-row r) in
     let here : nat_lt (kind_number (row_bytes r ++ rest)) 5 ≡ true = ap (λ n. nat_lt n 5) (row_fields_read r rest (All-head RowFits r rs fit)).1.1.0 ∙ kind_below r.point.kind in
     ap (list_all (λ n. nat_lt n 5)) opened ∙ and_from (nat_lt (kind_number (row_bytes r ++ rest)) 5) (list_all (λ n. nat_lt n 5) (table kind_number 24 (length rs) rest)) here (kinds_read rs (All-tail RowFits r rs fit))
 

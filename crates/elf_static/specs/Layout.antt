@@ -1,5 +1,5 @@
 -- How an image lies in memory that is written.
-use Rattle.std.specs.Prelude.{ℕ, ◌≡◌, ◌+◌, ◌-◌, ◌*◌, ◌/◌, List, [], ◌∷◌, ◌++◌, length, replicate}
+use Rattle.std.specs.Prelude.{ℕ, ◌≡◌, ◌+◌, ◌-◌, ◌*◌, ◌/◌, List, [], ◌∷◌, length}
 use Rattle.elf_static.specs.declared.image.Image.{Image}
 use Rattle.elf_static.specs.declared.image.Segment.{Segment}
 use Rattle.elf_static.specs.Load.{IsLoadable}
@@ -27,6 +27,7 @@ writable_segment text read_only slots arena_words = record {
   size = 8192 + 8 * slots + 8 * arena_words;
 }
 
+-- an image that can be loaded, with these three segments, the text's first address as its entry, and a table of entries that is right
 pub record IsLaidOut (image : Image) : Type 0 where
   pub loadable : IsLoadable image
   pub entry : image.entry ≡ 0x10000

@@ -3,13 +3,14 @@ use Rattle.std.specs.Prelude.{ℕ, ◌≡◌, ◌+◌, ◌%◌, ◌<◌, ◌≤�
 use Rattle.elf_static.specs.declared.image.Image.{Image}
 use Rattle.elf_static.specs.declared.image.Segment.{Segment}
 
--- no segment has more bytes than its size, and the sizes are together at most 2 ^ 31
+-- a segment has no more bytes than its size
 abbrev pub IsFilled : Segment → Type 0
 IsFilled s = length s.bytes ≤ s.size
 
 abbrev pub size_of : Segment → ℕ
 size_of s = s.size
 
+-- the sizes are together at most 2 ^ 31
 pub record HasRoom (segments : List Segment) : Type 0 where
   pub filled : All IsFilled segments
   pub sizes : sum_by size_of segments ≤ 2 ^ 31
@@ -26,6 +27,7 @@ IsApart s t = (s.size ≡ 0) ⊎ ((t.size ≡ 0) ⊎ ((s.address + s.size ≤ t.
 abbrev pub IsEntry : ℕ → Segment → Type 0
 IsEntry a s = (s.flags % 2 ≡ 1) × (s.address ≤ a) × (a < s.address + s.size)
 
+-- at most 64 segments that have room, end in range and have no address in common, and an entry that is a multiple of 4 in one that may be executed
 pub record IsLoadable (image : Image) : Type 0 where
   pub count : length image.segments ≤ 64
   pub room : HasRoom image.segments

@@ -32,18 +32,18 @@ overlaps p s = nat_lt 0 p.memory_size && nat_lt 0 s.size && nat_lt p.address (s.
 -- the checks of a header of type 1 that stands at an offset of the file, behind headers that name the earlier segments
 abbrev pub load_checks : List ℕ → ℕ → List Segment → ProgramHeader → List Check
 load_checks file at earlier p =
-  check (nat_lt p.memory_size p.file_size) kinds.Segment (at + 40)
-  ∷ check (nat_lt (2 ^ 63) (p.address + p.memory_size)) kinds.Segment (at + 16)
-  ∷ check (nat_lt (length file) (p.offset + p.file_size)) kinds.Short (length file)
-  ∷ check (list_any (overlaps p) earlier) kinds.Overlap (at + 16)
-  ∷ check (nat_lt (2 ^ 31) (sum_by size_of earlier + p.memory_size)) kinds.TooLarge (at + 40)
-  ∷ []
+    check (nat_lt p.memory_size p.file_size) kinds.Segment (at + 40)
+    ∷ check (nat_lt (2 ^ 63) (p.address + p.memory_size)) kinds.Segment (at + 16)
+    ∷ check (nat_lt (length file) (p.offset + p.file_size)) kinds.Short (length file)
+    ∷ check (list_any (overlaps p) earlier) kinds.Overlap (at + 16)
+    ∷ check (nat_lt (2 ^ 31) (sum_by size_of earlier + p.memory_size)) kinds.TooLarge (at + 40)
+    ∷ []
 
 -- types 2 and 3 (PT_DYNAMIC and PT_INTERP) are those of dynamic linking
 abbrev pub program_check : List ℕ → ℕ → List Segment → ProgramHeader → List Check
 program_check file at earlier p =
-  check ((p.kind == 2) || (p.kind == 3)) kinds.Dynamic at
-  ∷ (if p.kind == 1 then load_checks file at earlier p else [])
+    check ((p.kind == 2) || (p.kind == 3)) kinds.Dynamic at
+    ∷ (if p.kind == 1 then load_checks file at earlier p else [])
 
 -- header by header, from an offset on
 abbrev pub program_checks : List ℕ → ℕ → List Segment → List ProgramHeader → List Check

@@ -46,10 +46,10 @@ sections_named name file h sections = filter (is_named name (names_of file h sec
 
 abbrev pub section_checks : List ℕ → FileHeader → List SectionHeader → List Check
 section_checks file h sections =
-  check (not (h.sections == 0) && nat_lt (length file) (h.sections_at + 64 * h.sections)) kinds.Short (length file)
-  ∷ check (list_any (passes_end file) sections) kinds.Short (length file)
-  ∷ check (not (h.sections == 0) && (nat_le h.sections h.names || not (list_all (has_name (names_of file h sections)) sections))) kinds.Section 62
-  ∷ []
+    check (not (h.sections == 0) && nat_lt (length file) (h.sections_at + 64 * h.sections)) kinds.Short (length file)
+    ∷ check (list_any (passes_end file) sections) kinds.Short (length file)
+    ∷ check (not (h.sections == 0) && (nat_le h.sections h.names || not (list_all (has_name (names_of file h sections)) sections))) kinds.Section 62
+    ∷ []
 
 abbrev pub table_check : List ℕ → List Segment → SectionHeader → Check
 table_check file segments s = check (not (is_right segments (section_bytes file s))) kinds.Table s.offset

@@ -1,8 +1,6 @@
 -- The table of entries: its bytes, and when it is right.
 use Rattle.std.specs.Prelude.{ℕ, suc, ◌≡◌, ◌+◌, ◌*◌, ◌/◌, ◌%◌, ◌<◌, ◌≤◌, ◌^◌, ◌⊎◌, ◌==◌, ◌&&◌, ◌||◌, not, nat_lt, nat_le, nat_eq, Bool, true, List, [], ◌∷◌, length, drop, map, codes, if◌then◌else◌, Any, AllPairs, ◌≢◌, slice_index_or}
 use Rattle.std.specs.List.{list_any, list_all, starts_with}
-use Rattle.smlc_base.specs.declared.point.Label.{Label}
-use Rattle.smlc_base.specs.declared.point.Point.{Point}
 use Rattle.smlc_base.specs.declared.point.PointKind.{PointKind}
 use Rattle.smlc_base.specs.declared.point.PointKind.TheVariants.{Fn, Ret, Caught, Popped, Eq}
 use Rattle.elf_static.specs.declared.image.EntryRow.{EntryRow}
@@ -73,10 +71,10 @@ has_arena segments e = (e.arena_words == 0) || ((e.arena % 8 == 0) && list_any (
 
 abbrev pub is_right : List Segment → List ℕ → Bool
 is_right segments bytes =
-  has_form bytes && has_kinds bytes
-  && are_numbered 0 (entries_in bytes).rows
-  && are_distinct (map address_of (entries_in bytes).rows)
-  && has_arena segments (entries_in bytes)
+    has_form bytes && has_kinds bytes
+    && are_numbered 0 (entries_in bytes).rows
+    && are_distinct (map address_of (entries_in bytes).rows)
+    && has_arena segments (entries_in bytes)
 
 -- the row's label is its place
 abbrev pub HasLabel : List EntryRow → ℕ → Type 0

@@ -1,5 +1,5 @@
 -- The file that is written for an image.
-use Rattle.std.specs.Prelude.{ℕ, ◌+◌, ◌-◌, ◌*◌, ◌<◌, ◌^◌, All, List, [], ◌∷◌, ◌++◌, length, replicate, codes}
+use Rattle.std.specs.Prelude.{ℕ, ◌+◌, ◌-◌, ◌<◌, ◌^◌, All, List, [], ◌∷◌, ◌++◌, length, replicate, codes}
 use Rattle.std.specs.List.{flat_map, AllByRecursion}
 use Rattle.byteorder.specs.Endian.{little_bytes}
 use Rattle.smlc_base.specs.declared.point.PointKind.{PointKind}
@@ -41,33 +41,33 @@ ident = 0x7F ∷ 0x45 ∷ 0x4C ∷ 0x46 ∷ 2 ∷ 1 ∷ 1 ∷ 0 ∷ 0 ∷ 0 ∷ 
 -- the file header behind its identification
 abbrev pub file_fields : ℕ → List Field
 file_fields sections_at =
-  Half 2             -- e_type: an executable file
-  ∷ Half 243         -- e_machine: RISC-V
-  ∷ Word 1           -- e_version
-  ∷ Double 0x10000   -- e_entry
-  ∷ Double 64        -- e_phoff
-  ∷ Double sections_at
-  ∷ Word 0           -- e_flags
-  ∷ Half 64          -- e_ehsize
-  ∷ Half 56          -- e_phentsize
-  ∷ Half 3           -- e_phnum
-  ∷ Half 64          -- e_shentsize
-  ∷ Half 4           -- e_shnum
-  ∷ Half 3           -- e_shstrndx
-  ∷ []
+    Half 2  -- e_type: an executable file
+    ∷ Half 243  -- e_machine: RISC-V
+    ∷ Word 1  -- e_version
+    ∷ Double 0x10000  -- e_entry
+    ∷ Double 64  -- e_phoff
+    ∷ Double sections_at
+    ∷ Word 0  -- e_flags
+    ∷ Half 64  -- e_ehsize
+    ∷ Half 56  -- e_phentsize
+    ∷ Half 3  -- e_phnum
+    ∷ Half 64  -- e_shentsize
+    ∷ Half 4  -- e_shnum
+    ∷ Half 3  -- e_shstrndx
+    ∷ []
 
 -- the program header of a segment whose bytes begin at an offset
 abbrev pub program_fields : ℕ → Segment → List Field
 program_fields offset s =
-  Word 1                       -- p_type: PT_LOAD
-  ∷ Word s.flags               -- p_flags
-  ∷ Double offset              -- p_offset
-  ∷ Double s.address           -- p_vaddr
-  ∷ Double s.address           -- p_paddr
-  ∷ Double (length s.bytes)    -- p_filesz
-  ∷ Double s.size              -- p_memsz
-  ∷ Double 4096                -- p_align
-  ∷ []
+    Word 1  -- p_type: PT_LOAD
+    ∷ Word s.flags  -- p_flags
+    ∷ Double offset  -- p_offset
+    ∷ Double s.address  -- p_vaddr
+    ∷ Double s.address  -- p_paddr
+    ∷ Double (length s.bytes)  -- p_filesz
+    ∷ Double s.size  -- p_memsz
+    ∷ Double 4096  -- p_align
+    ∷ []
 
 unfoldable pub program_bytes : ℕ → Segment → List ℕ
 program_bytes offset s = fields (program_fields offset s)
@@ -79,17 +79,17 @@ program_table offset (s ∷ ss) = program_bytes offset s ++ program_table (offse
 -- a section's header. What isn't named is 0
 abbrev pub section_fields : ℕ → ℕ → ℕ → ℕ → List Field
 section_fields name kind offset size =
-  Word name         -- sh_name
-  ∷ Word kind       -- sh_type
-  ∷ Double 0        -- sh_flags
-  ∷ Double 0        -- sh_addr
-  ∷ Double offset   -- sh_offset
-  ∷ Double size     -- sh_size
-  ∷ Word 0          -- sh_link
-  ∷ Word 0          -- sh_info
-  ∷ Double 0        -- sh_addralign
-  ∷ Double 0        -- sh_entsize
-  ∷ []
+    Word name  -- sh_name
+    ∷ Word kind  -- sh_type
+    ∷ Double 0  -- sh_flags
+    ∷ Double 0  -- sh_addr
+    ∷ Double offset  -- sh_offset
+    ∷ Double size  -- sh_size
+    ∷ Word 0  -- sh_link
+    ∷ Word 0  -- sh_info
+    ∷ Double 0  -- sh_addralign
+    ∷ Double 0  -- sh_entsize
+    ∷ []
 
 abbrev pub number_of_kind : PointKind → ℕ
 number_of_kind Fn = 0
@@ -144,10 +144,10 @@ section_bytes name kind offset size = fields (section_fields name kind offset si
 
 abbrev pub section_table : Image → List ℕ
 section_table image =
-  section_bytes 0 0 0 0
-  ++ section_bytes 1 1 (entries_at image) (length (table_bytes image.entries))
-  ++ section_bytes 14 1 (plan_at image) (length image.plan)
-  ++ section_bytes 24 3 (names_at image) (length names)
+    section_bytes 0 0 0 0
+    ++ section_bytes 1 1 (entries_at image) (length (table_bytes image.entries))
+    ++ section_bytes 14 1 (plan_at image) (length image.plan)
+    ++ section_bytes 24 3 (names_at image) (length names)
 
 unfoldable pub headers : Image → List ℕ
 headers image = ident ++ fields (file_fields (sections_at image)) ++ program_table 4096 image.segments
@@ -155,12 +155,12 @@ headers image = ident ++ fields (file_fields (sections_at image)) ++ program_tab
 -- the headers, the segments' bytes, the three sections, and their headers. The table of entries is a multiple of 8 bytes long
 unfoldable pub written : Image → List ℕ
 written image =
-  padded 4096 (headers image)
-  ++ segment_bytes image.segments
-  ++ table_bytes image.entries
-  ++ padded 8 image.plan
-  ++ padded 8 names
-  ++ section_table image
+    padded 4096 (headers image)
+    ++ segment_bytes image.segments
+    ++ table_bytes image.entries
+    ++ padded 8 image.plan
+    ++ padded 8 names
+    ++ section_table image
 
 -- the numbers of all headers and of the table of entries fit their fields
 abbrev pub ProgramsFit : ℕ → List Segment → Type 0

@@ -158,11 +158,7 @@ impl Record for SectionHeader {
 }
 
 /// The table of `count` records at the front of the bytes.
-pub fn read_table<R: Record>(
-    alloc: Global,
-    bytes: &[u8],
-    count: usize,
-) -> Result<Vec<R>, NoMemory>
+pub fn read_table<R: Record>(alloc: Global, bytes: &[u8], count: usize) -> Result<Vec<R>, NoMemory>
     requires { R.width * count ≤ length bytes.now }
     ensures { IfOk result (λ v. v.items ≡ table R.meaning R.width count bytes.now) }
 {

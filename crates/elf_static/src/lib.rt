@@ -16,10 +16,10 @@ mod sections;
 mod table;
 mod writing;
 
-pub use checks::Check;
 pub use error::{ElfError, ElfKind};
-pub use fields::Field;
-pub use headers::{FileHeader, ProgramHeader, SectionHeader};
 pub use image::{Entries, EntryRow, Image, Segment};
 pub use reading::read_elf;
 pub use writing::write_elf;
+
+#[cfg(test)]
+mod tests;

@@ -6,9 +6,9 @@ ghost use Rattle.elf_static.specs.Checks.{Passes};
 ghost use Rattle.elf_static.specs.Load.{size_of};
 ghost use Rattle.elf_static.specs.Programs.{overlaps, load_checks, program_check, program_checks, program_headers, loaded, segments_of, segment_of, is_executable_at, entry_check};
 
-use crate::checks::{exceeds, pass, Check};
+use crate::checks::{Check, exceeds, pass};
 use crate::error::{ElfError, ElfKind};
-use crate::headers::{read_table, FileHeader, ProgramHeader};
+use crate::headers::{FileHeader, ProgramHeader, read_table};
 use crate::image::Segment;
 use smlc_base::Row;
 use std::alloc::Global;
@@ -85,7 +85,7 @@ fn segment(alloc: Global, bytes: &[u8], p: &ProgramHeader) -> Result<Segment, El
     Ok(Segment {
         address: p.address,
         flags: p.flags,
-        bytes: Row::from_vec(bytes[start..end].to_vec(alloc)?),
+        bytes: Row::from_vec(Vec::from_slice(alloc, &bytes[start..end])?),
         size: p.memory_size,
     })
 }

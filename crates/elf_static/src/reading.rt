@@ -7,7 +7,7 @@ ghost use Rattle.elf_static.specs.Load.{IsLoadable};
 ghost use Rattle.elf_static.specs.Table.{IsRightTable};
 ghost use Rattle.elf_static.specs.Reading.{ident_check, size_check, header_checks, later_checks, checks_under, image_under, meaning_of};
 
-use crate::checks::{exceeds, pass, Check};
+use crate::checks::{Check, exceeds, pass};
 use crate::error::{ElfError, ElfKind};
 use crate::headers::FileHeader;
 use crate::image::Image;
@@ -48,8 +48,16 @@ fn checks_of_header(bytes: &[u8], header: &FileHeader) -> [Check; 15]
         check(header.version != 1, ElfKind::Version, 20),
         check(header.header_size != 64, ElfKind::Sizes, 52),
         check(header.program_size != 56, ElfKind::Sizes, 54),
-        check(header.sections != 0 && header.section_size != 64, ElfKind::Sizes, 58),
-        check(header.programs == 0 || header.programs > 64, ElfKind::Programs, 56),
+        check(
+            header.sections != 0 && header.section_size != 64,
+            ElfKind::Sizes,
+            58,
+        ),
+        check(
+            header.programs == 0 || header.programs > 64,
+            ElfKind::Programs,
+            56,
+        ),
         check(
             exceeds(header.programs_at, 56 * header.programs as u64, size),
             ElfKind::Short,

@@ -6,9 +6,9 @@ ghost use Rattle.elf_static.specs.Checks.{Passes};
 ghost use Rattle.elf_static.specs.Sections.{section_headers, section_bytes, passes_end, names_of, has_name, is_named, section_checks, table_check, right_checks, table_checks, entries_of, first_bytes, tables_of, plan_of};
 ghost use Rattle.elf_static.specs.Table.{entries_in};
 
-use crate::checks::{exceeds, pass, Check};
+use crate::checks::{Check, exceeds, pass};
 use crate::error::{ElfError, ElfKind};
-use crate::headers::{read_table, FileHeader, SectionHeader};
+use crate::headers::{FileHeader, SectionHeader, read_table};
 use crate::image::{Entries, Segment};
 use crate::table::right_table;
 use smlc_base::{NoMemory, Row};
@@ -222,7 +222,7 @@ fn first_of(alloc: Global, bytes: &[u8], sections: &[SectionHeader]) -> Result<R
 {
     match sections {
         [] => Ok(Row::new(alloc)),
-        [first, ..] => Ok(Row::from_vec(bytes_of(bytes, first).to_vec(alloc)?)),
+        [first, ..] => Ok(Row::from_vec(Vec::from_slice(alloc, bytes_of(bytes, first))?)),
     }
 }
 

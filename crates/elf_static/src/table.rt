@@ -7,7 +7,7 @@ ghost use Rattle.elf_static.specs.Numbers.{number, table};
 ghost use Rattle.elf_static.specs.Table.{kind_of, has_form, has_kinds, kind_number, are_numbered, are_distinct, address_of, has_words, has_arena, is_right, entries_in};
 
 use crate::checks::exceeds;
-use crate::headers::{read_table, Record};
+use crate::headers::{Record, read_table};
 use crate::image::{Entries, EntryRow, Segment};
 use crate::numbers::{double_at, word_at};
 use smlc_base::{Label, NoMemory, Point, PointKind, Row};
@@ -115,7 +115,10 @@ fn is_distinct(alloc: Global, rows: &[EntryRow]) -> Result<bool, NoMemory>
 fn can_hold(at: u64, words: u64, s: &Segment) -> bool
     ensures { result ≡ has_words at words s.now }
 {
-    s.flags / 2 % 2 == 1 && s.address <= at && words <= s.size / 8 && at - s.address <= s.size - 8 * words
+    s.flags / 2 % 2 == 1
+        && s.address <= at
+        && words <= s.size / 8
+        && at - s.address <= s.size - 8 * words
 }
 
 /// Whether so many words from an address on lie in a segment that may be written.
@@ -130,8 +133,7 @@ fn is_arena(segments: &[Segment], entries: &Entries) -> bool
     ensures { result ≡ has_arena segments.now entries.now }
 {
     entries.arena_words == 0
-        || entries.arena % 8 == 0
-            && can_hold_in_one(entries.arena, entries.arena_words, segments)
+        || entries.arena % 8 == 0 && can_hold_in_one(entries.arena, entries.arena_words, segments)
 }
 
 /// What a table of the right form means.

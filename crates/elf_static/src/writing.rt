@@ -6,7 +6,7 @@ ghost use Rattle.elf_static.specs.Layout.{IsLaidOut};
 ghost use Rattle.elf_static.specs.Reading.{meaning_of};
 ghost use Rattle.elf_static.specs.Writing.{file_fields, program_fields, program_bytes, program_table, section_fields, section_bytes, number_of_kind, row_fields, row_bytes, table_fields, table_bytes, segment_bytes, names, entries_at, plan_at, names_at, sections_at, section_table, headers, written, FieldsFit, RowFits, EntriesFit, ProgramsFit, SectionFits, SectionsFit, HeadersFit, NumbersFit};
 
-use crate::fields::{padded_len, put_fields, put_padded, Field};
+use crate::fields::{Field, padded_len, put_fields, put_padded};
 use crate::image::{Entries, EntryRow, Image, Segment};
 use smlc_base::{NoMemory, PointKind};
 use std::alloc::Global;
@@ -244,7 +244,13 @@ fn headers(alloc: Global, image: &Image, sections: u64) -> Result<Vec<u8>, NoMem
 
 /// Puts a section header last.
 #[tactic(auto, unfolding(crate::specs::Writing::section_bytes))]
-fn put_section(out: &mut Vec<u8>, name: u32, kind: u32, offset: u64, size: u64) -> Result<(), NoMemory>
+fn put_section(
+    out: &mut Vec<u8>,
+    name: u32,
+    kind: u32,
+    offset: u64,
+    size: u64,
+) -> Result<(), NoMemory>
     ensures bytes { OnOk result (out.new.items ≡ out.old.items ++ section_bytes name kind offset size) }
     ensures fits { OnOk result (SectionFits name kind offset size) }
 {

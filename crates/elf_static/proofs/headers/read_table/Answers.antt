@@ -1,6 +1,5 @@
-use Rattle.std.proofs.Common.{◌∷◌, ◌++◌, [], subst, sym, ap, ◌∙◌}
 use Rattle.elf_static.specs.Numbers.{table}
-use Rattle.elf_static.proofs.Tables.{Reads, Reads-more}
+use Rattle.elf_static.proofs.Tables.{Reads-more}
 use Rattle.elf_static.proofs.headers.read_table.Goals as goal
 
 pub loop-preserved : goal.loop-preserved

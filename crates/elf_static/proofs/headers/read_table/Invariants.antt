@@ -1,4 +1,4 @@
-use Rattle.std.proofs.Common.{◌≡◌, ◌-◌}
+use Rattle.std.proofs.Common.{◌-◌}
 use Rattle.elf_static.specs.Numbers.{table}
 use Rattle.elf_static.proofs.Tables.{Reads}
 use Rattle.elf_static.proofs.headers.read_table.Given as goal

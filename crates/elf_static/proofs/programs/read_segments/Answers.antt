@@ -1,4 +1,4 @@
-use Rattle.std.proofs.Common.{◌≡◌, ◌∙◌, length, ap, arith, drop}
+use Rattle.std.proofs.Common.{◌≡◌, ◌∙◌, length, ap, arith}
 use Rattle.elf_static.specs.Headers.{program_header}
 use Rattle.elf_static.proofs.Tables.{length-table}
 use Rattle.elf_static.proofs.programs.read_segments.Goals as goal

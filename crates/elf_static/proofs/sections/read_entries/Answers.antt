@@ -1,10 +1,8 @@
-use Rattle.std.proofs.Common.{◌≡◌, ◌∙◌, ℕ, List, false, subst, sym}
+use Rattle.std.proofs.Common.{◌≡◌, ◌∙◌, false, subst, sym}
 use Rattle.std.specs.Prelude.{codes}
 use Rattle.std.specs.List.{list_any}
-use Rattle.elf_static.specs.declared.headers.SectionHeader.{SectionHeader}
-use Rattle.elf_static.specs.declared.image.Entries.{Entries}
 use Rattle.elf_static.specs.Checks.{Passes}
-use Rattle.elf_static.specs.Sections.{is_named, passes_end, table_checks, tables_of, entries_of}
+use Rattle.elf_static.specs.Sections.{is_named, passes_end, table_checks, tables_of}
 use Rattle.elf_static.proofs.TableChecks.{filter_in_file, found_named}
 use Rattle.elf_static.proofs.sections.read_entries.Goals as goal
 

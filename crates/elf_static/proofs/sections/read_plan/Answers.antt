@@ -2,7 +2,7 @@ use Rattle.std.proofs.Common.{◌≡◌, ◌∙◌, false, subst, sym}
 use Rattle.std.specs.Prelude.{codes}
 use Rattle.std.specs.List.{list_any}
 use Rattle.elf_static.specs.Sections.{is_named, passes_end}
-use Rattle.elf_static.proofs.TableChecks.{filter_in_file, found_named}
+use Rattle.elf_static.proofs.TableChecks.{filter_in_file}
 use Rattle.elf_static.proofs.sections.read_plan.Goals as goal
 
 pub first_of-requires : goal.first_of-requires

@@ -1,4 +1,4 @@
-use Rattle.std.proofs.Common.{◌<◌, ◌+◌, length}
+use Rattle.std.proofs.Common.{◌<◌, ◌+◌}
 use Rattle.std.specs.Prelude.{ℕ, slice_index}
 use Rattle.elf_static.proofs.table.is_increasing.Given as goal
 

@@ -11,7 +11,7 @@ pub loop-row-preserved : goal.loop-row-preserved
 loop-row-preserved c = record {
   bytes = grind (arith, common_steps);
   fit = All-more RowFits c.args.rows.now c.loop-row.row-index _ c.loop-row-test.true c.loop-row.invariant.fit c.in_ok-put_row.ensures.fits;
-  }
+}
 
 pub returns-clause-fit : goal.returns-clause-fit
 returns-clause-fit c = subst (All RowFits) (take_all c.loop-row.row-index c.args.rows.now c.loop-row-test.false) c.loop-row.invariant.fit
