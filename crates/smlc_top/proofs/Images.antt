@@ -23,4 +23,4 @@ image_is lengths text code base behind a b c k p q x y z =
     let b_is : b ≡ read_only_segment whole text = y ∙ ap (λ (n : ℕ). record { address = n; flags = 4; bytes = text; size = length text }) base_is in
     let c_is : c ≡ writable_segment whole text 0 0 = z ∙ ap (λ (n : ℕ). record { address = round_up 4096 n; flags = 6; bytes = []; size = 8192 }) (q ∙ ap (λ (n : ℕ). n + length text) base_is) in
     ap (λ (s : Segment). with_segments s b c) a_is ∙ ap (λ (s : Segment). with_segments (text_segment whole) s c) b_is
-        ∙ ap (λ (s : Segment). with_segments (text_segment whole) (read_only_segment whole text) s) c_is
+    ∙ ap (λ (s : Segment). with_segments (text_segment whole) (read_only_segment whole text) s) c_is

@@ -10,8 +10,8 @@ ghost use Rattle.smlc_top.specs.Code.{bytes_of, piece_code, pieces_code, loop_co
 ghost use Rattle.smlc_top.specs.Prints.{Prints};
 
 use crate::reader::Printed;
-use rv_isa::{Ins, Op, encode};
 use elf_static::{Entries, Image, Segment};
+use rv_isa::{Ins, Op, encode};
 use smlc_base::{NoMemory, Row};
 use std::alloc::Global;
 
