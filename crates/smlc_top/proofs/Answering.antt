@@ -1,15 +1,14 @@
--- what a command came to, and what was said of it, as an answer
-use Rattle.std.proofs.Common.{◌≡◌, ◌⊎◌, inl, inr, ℕ, ◌≤◌, List, [], ◌++◌, Option, arith, refl, sym, ap, subst, ◌∙◌}
+-- what a job came to, and what was said of it, as an answer
+use Rattle.std.proofs.Common.{◌≡◌, ◌⊎◌, inl, inr, ℕ, ◌≤◌, List, [], ◌∷◌, ◌++◌, Option, arith, refl, sym, ap, subst, ◌∙◌}
 use Rattle.std.proofs.lemmas.List.{append-nil}
-use Rattle.smlc_edge.specs.Edge.{Rose, Fails, Files, Gains}
+use Rattle.smlc_edge.specs.Edge.{Rose, Fails, Files}
 use Rattle.smlc_edge.proofs.Gained.{gains_none, gains_more}
 use Rattle.smlc_top.specs.declared.outcome.Outcome.{Outcome}
-use Rattle.smlc_top.specs.declared.outcome.Outcome.TheVariants as outcome
-use Rattle.smlc_top.specs.Command.{Runs}
+use Rattle.smlc_top.specs.Job.{Job, CompileFile, IsAsked, file_of, target_of}
 use Rattle.smlc_top.specs.Outcome.{line_of, status_of}
-use Rattle.smlc_top.specs.Texts.{usage_line, memory_line, refusal_line, store_line, input_line, out_line}
+use Rattle.smlc_top.specs.Texts.{memory_line, store_line, input_line, out_line}
 use Rattle.smlc_top.specs.Write.{IsPrefix, Said}
-use Rattle.smlc_top.specs.Clause.{Answers, done, refused, store_fault, input_fault, out_fault, err_fault, memory, usage, IsLine, no_line, of_refusal, of_memory, of_usage, WroteSome, IsHeld, Means, IsRefused, Tally, tally, IsSame, Came, Ran, ran_done, ran_input_fault, ran_out_fault, ran_err_fault, ran_memory, Filed, of_run, file_refused, file_memory, Performed, of_file, not_loaded, load_memory}
+use Rattle.smlc_top.specs.Clause.{Answers, answered, plain, not_loaded, not_saved, input_failed, out_failed, err_failed, untold, untold_plain, Comes, Plain, no_memory, KeepsFiles, Tally, IsSame, Came, Performed, fine, want, load_failed, save_failed, read_failed, write_failed, error_failed}
 
 -- counts that stand still, and one that rises later
 same_now : (before now : Tally) (err : ℕ) → IsSame before now → err ≡ now.err → IsSame before (record now { err = err })
@@ -28,6 +27,10 @@ front_of line err wrote none h = (h.0, h.1 ∙ ap (λ (x : List ℕ). (x ++ wrot
 behind : (line err wrote : List ℕ) → err ≡ [] → wrote ≡ line → err ++ wrote ≡ line
 behind line err wrote none h = ap (λ (x : List ℕ). x ++ wrote) none ∙ h
 
+nothing_behind : (err wrote : List ℕ) → IsPrefix wrote [] → err ++ wrote ≡ err
+nothing_behind err [] h = append-nil err
+nothing_behind err (x ∷ wrote) h = absurd (cc)
+
 abbrev How : ℕ → List ℕ → List ℕ → ℕ → ℕ → ℕ → Type 0
 How status wrote line e e' r = ((r ≡ status) × (wrote ≡ line) × (e' ≡ e)) ⊎ ((r ≡ 5) × Fails e e')
 
@@ -39,65 +42,66 @@ grown : (status : ℕ) (wrote line : List ℕ) (e e' r : ℕ) → How status wro
 grown status wrote line e e' r (inl h) = let k = h.2 in omega arith
 grown status wrote line e e' r (inr h) = h.1.0
 
-module _ (words : List (List ℕ)) (told : Option Files) (name : List ℕ) (runs : Runs words name) (before now : Tally) (out err wrote : List ℕ) (e' r : ℕ) where
+module _ (words : List (List ℕ)) (told files : Option Files) (before now : Tally) (input : Option (List ℕ)) (out merr wrote : List ℕ) (e' r : ℕ) where
   abbrev Says : ℕ → Type 0
-  Says status = Answers words told before (record now { err = e' }) out (err ++ wrote) status
+  Says status = Answers words told files before (record now { err = e' }) input out (merr ++ wrote) status
 
   with_status : (status : ℕ) → r ≡ status → Says status → Says r
   with_status status h a = subst (λ (x : ℕ). Says x) (sym h) a
 
-  some : (file text : List ℕ) → IsHeld told name file → Means file text → IsPrefix out text → WroteSome words told out
-  some file text held means p = inr (name, file, text, runs, held, means, p)
+  -- a line of any job
+  pub plainly : (line : List ℕ) (status : ℕ) → Plain words line status → out ≡ [] → merr ≡ [] → KeepsFiles told files → IsSame before now → IsPrefix wrote line → How status wrote line now.err e' r → Says r
+  plainly line status p none no_err keeps same front (inl h) =
+      with_status status h.0 (plain line status p none keeps (same_now before now e' same h.2) (behind line merr wrote no_err h.1))
+  plainly line status p none no_err keeps same front (inr h) =
+      with_status 5 h.0 (untold_plain line status p (rose_last before now e' same h.1) none keeps (front_of line merr wrote no_err front))
 
-  no_memory : out ≡ [] → err ≡ [] → IsSame before now → IsPrefix wrote memory_line → How 6 wrote memory_line now.err e' r → Says r
-  no_memory p none same front (inl h) = with_status 6 h.0 (memory p (behind memory_line err wrote none h.1) (same_now before now e' same h.2))
-  no_memory p none same front (inr h) = with_status 5 h.0 (err_fault memory_line (rose_last before now e' same h.1) (inl p) of_memory (front_of memory_line err wrote none front))
+  module _ (job : Job) (asked : IsAsked words job) where
+    finely : (line : List ℕ) (status : ℕ) → Comes told files input out merr job line status → IsSame before now → IsPrefix wrote line → How status wrote line now.err e' r → Says r
+    finely line status c same front (inl h) =
+        with_status status h.0 (answered job merr line status asked c (same_now before now e' same h.2) (ap (λ (x : List ℕ). merr ++ x) h.1))
+    finely line status c same front (inr h) =
+        with_status 5 h.0 (untold job merr line wrote status asked (rose_last before now e' same h.1) c front refl)
 
-  ran : (file text : List ℕ) (o : Outcome) → IsHeld told name file → Means file text → Ran text before now out err o → IsPrefix wrote (line_of name o) → How (status_of o) wrote (line_of name o) now.err e' r → Says r
-  ran file text _ held means (ran_done p none same) front (inl h) =
-      with_status 0 h.0 (done name file runs held (subst (λ (x : List ℕ). Means file x) (sym p) means) (behind [] err wrote none h.1) (same_now before now e' same h.2))
-  ran file text _ held means (ran_done p none same) front (inr h) =
-      with_status 5 h.0 (err_fault [] (rose_last before now e' same h.1) (some file text held means ([], sym p ∙ sym (append-nil out))) no_line (front_of [] err wrote none front))
-  ran file text _ held means (ran_input_fault f p none) front how =
-      with_status 5 (five wrote input_line now.err e' r how) (input_fault f.1 (some file text held means p) (front_of input_line err wrote none front))
-  ran file text _ held means (ran_out_fault f p none) front how =
-      with_status 5 (five wrote out_line now.err e' r how) (out_fault f (some file text held means p) (front_of out_line err wrote none front))
-  ran file text _ held means (ran_err_fault f p none) front how =
-      with_status 5 (five wrote [] now.err e' r how) (err_fault [] (rose_later before.err now.err e' f (grown 5 wrote [] now.err e' r how)) (some file text held means p) no_line (front_of [] err wrote none front))
-  ran file text _ held means (ran_memory p none same) front how = no_memory p none same front how
-
-  filed : (file : List ℕ) (o : Outcome) → IsHeld told name file → Filed name file before now out err o → IsPrefix wrote (line_of name o) → How (status_of o) wrote (line_of name o) now.err e' r → Says r
-  filed file _ held (of_run text o means h) front how = ran file text o held means h front how
-  filed file _ held (file_refused refusal line is same_line p none same) front (inl h) =
-      with_status 2 h.0 (refused name file refusal runs held is p (behind (refusal_line name refusal) err wrote none (h.1 ∙ same_line)) (same_now before now e' same h.2))
-  filed file _ held (file_refused refusal line is same_line p none same) front (inr h) =
-      with_status 5 h.0 (err_fault (refusal_line name refusal) (rose_last before now e' same h.1) (inl p) (of_refusal name file refusal runs held is)
-      (front_of (refusal_line name refusal) err wrote none (front.0, sym same_line ∙ front.1)))
-  filed file _ held (file_memory p none same) front how = no_memory p none same front how
-
-  pub performed : (o : Outcome) → Performed name told before now out err o → IsPrefix wrote (line_of name o) → How (status_of o) wrote (line_of name o) now.err e' r → Says r
-  performed _ (of_file file o held h) front how = filed file o held h front how
-  performed _ (not_loaded f p none) front how =
-      with_status 5 (five wrote (store_line name) now.err e' r how) (store_fault name runs f.1 p (front_of (store_line name) err wrote none front))
-  performed _ (load_memory p none same) front how = no_memory p none same front how
+    pub performed : (o : Outcome) → Performed job told files before now input out merr o → IsPrefix wrote (line_of (file_of job) (target_of job) o) →
+        How (status_of o) wrote (line_of (file_of job) (target_of job) o) now.err e' r → Says r
+    performed _ (fine o c same) front how = finely (line_of (file_of job) (target_of job) o) (status_of o) c same front how
+    performed _ (want none no_err keeps same) front how = plainly memory_line 6 no_memory none no_err keeps same front how
+    performed _ (load_failed f none no_err keeps) front how =
+        with_status 5 (five wrote (store_line (file_of job)) now.err e' r how) (not_loaded job asked f.1 none keeps (front_of (store_line (file_of job)) merr wrote no_err front))
+    performed _ (save_failed name target is f none no_err changes) front how =
+        let asked' : IsAsked words (CompileFile name target) = subst (λ (j : Job). IsAsked words j) is asked in
+        let same_target : target_of job ≡ target = ap target_of is in
+        let front' : IsPrefix wrote (store_line target) = subst (λ (t : List ℕ). IsPrefix wrote (store_line t)) same_target front in
+        with_status 5 (five wrote (store_line (target_of job)) now.err e' r how) (not_saved name target asked' f.1 none changes (front_of (store_line target) merr wrote no_err front'))
+    performed _ (read_failed f midway keeps) front how =
+        with_status 5 (five wrote input_line now.err e' r how) (input_failed job merr wrote asked f.1 midway keeps front refl)
+    performed _ (write_failed f midway keeps) front how =
+        with_status 5 (five wrote out_line now.err e' r how) (out_failed job merr wrote asked f midway keeps front refl)
+    performed _ (error_failed f midway keeps) front how =
+        with_status 5 (five wrote [] now.err e' r how)
+        (subst (λ (x : List ℕ). Answers words told files before (record now { err = e' }) input out x 5) (sym (nothing_behind merr wrote front))
+        (err_failed job asked (rose_later before.err now.err e' f (grown 5 wrote [] now.err e' r how)) midway keeps))
 
 -- what was performed, and the report of it
-pub answered : (words : List (List ℕ)) (told : Option Files) (name : List ℕ) (before now : Tally) (e' r : ℕ) (out out' err err' err'' : Option (List ℕ)) (o : Outcome) → Runs words name →
-    Came out out' err err' (λ wrote wrote_err. Performed name told before now wrote wrote_err o) → Said (line_of name o) (status_of o) r now.err e' err' err'' →
-    Came out out' err err'' (λ wrote wrote_err. Answers words told before (record now { err = e' }) wrote wrote_err r)
-answered words told name before now e' r out out' err err' err'' o runs h s = record {
+pub reported : (words : List (List ℕ)) (told files : Option Files) (job : Job) (before now : Tally) (input : Option (List ℕ)) (e' r : ℕ) (out out' err err' err'' : Option (List ℕ)) (o : Outcome) → IsAsked words job →
+    Came out out' err err' (λ w e. Performed job told files before now input w e o) → Said (line_of (file_of job) (target_of job) o) (status_of o) r now.err e' err' err'' →
+    Came out out' err err'' (λ w e. Answers words told files before (record now { err = e' }) input w e r)
+reported words told files job before now input e' r out out' err err' err'' o asked h s = record {
   wrote = h.wrote;
   wrote_err = h.wrote_err ++ s.wrote;
   gains = h.gains;
   gains_err = gains_more err err' err'' h.wrote_err s.wrote h.gains_err s.gains;
-  says = performed words told name runs before now h.wrote h.wrote_err s.wrote e' r o h.says s.front s.how;
+  says = performed words told files before now input h.wrote h.wrote_err s.wrote e' r job asked o h.says s.front s.how;
 }
 
--- the usage alone
-pub said_usage : (words : List (List ℕ)) (told : Option Files) (before : Tally) (e' r : ℕ) (out err err' : Option (List ℕ)) → ((name : List ℕ) → Runs words name → ⊥) →
-    Said usage_line 7 r before.err e' err err' → Came out out err err' (λ wrote wrote_err. Answers words told before (record before { err = e' }) wrote wrote_err r)
-said_usage words told before e' r out err err' never s = record { wrote = []; wrote_err = s.wrote; gains = gains_none out; gains_err = s.gains; says = by_how s.how }
-  where
-    by_how : How 7 s.wrote usage_line before.err e' r → Answers words told before (record before { err = e' }) [] s.wrote r
-    by_how (inl h) = subst (λ (x : ℕ). Answers words told before (record before { err = e' }) [] s.wrote x) (sym h.0) (usage never refl h.1 (record { store = refl; input = refl; out = refl; err = h.2 }))
-    by_how (inr h) = subst (λ (x : ℕ). Answers words told before (record before { err = e' }) [] s.wrote x) (sym h.0) (err_fault usage_line h.1.1 (inl refl) (of_usage never) s.front)
+-- a line alone
+pub said_plain : (words : List (List ℕ)) (told : Option Files) (line : List ℕ) (status : ℕ) (before : Tally) (input : Option (List ℕ)) (e' r : ℕ) (out err err' : Option (List ℕ)) → Plain words line status →
+    Said line status r before.err e' err err' → Came out out err err' (λ w e. Answers words told told before (record before { err = e' }) input w e r)
+said_plain words told line status before input e' r out err err' p s = record {
+  wrote = [];
+  wrote_err = s.wrote;
+  gains = gains_none out;
+  gains_err = s.gains;
+  says = plainly words told told before before input [] [] s.wrote e' r line status p refl refl (λ files h. h) (record { store = refl; input = refl; out = refl; err = refl }) s.front s.how;
+}

@@ -3,17 +3,11 @@ use Rattle.std.proofs.Common.{◌≡◌, ℕ, suc, ◌+◌, ◌-◌, ◌*◌, �
 use Rattle.std.specs.Prelude.{All, replicate}
 use Rattle.std.proofs.lemmas.List.{append-nil, take_all}
 use Rattle.rv_isa.specs.declared.word.Ins.{Ins}
-use Rattle.rv_machine.specs.declared.hart.End.{End}
-use Rattle.rv_machine.specs.declared.hart.End.TheVariants as ended
-use Rattle.rv_machine.specs.State.{State}
-use Rattle.rv_machine.specs.Load.{loaded}
-use Rattle.rv_machine.specs.Run.{World, Cut, Mend, Runs, Exited, Trapped, Turn, behaviour, RunsTo, mend_of}
+use Rattle.rv_machine.specs.Run.{World, Cut, Mend, Runs, Exited, Trapped, Turn, behaviour}
 use Rattle.smlc_top.specs.Code.{bytes_of, pieces_code, whole_code, data_at, image_of, IsStraight}
 use Rattle.elf_static.specs.declared.image.Image.{Image}
 use Rattle.elf_static.specs.Layout.{round_up, writable_segment}
 use Rattle.rv_machine.specs.Memory.{memory_of, areas_of}
-use Rattle.smlc_top.specs.declared.outcome.Outcome.{Outcome}
-use Rattle.smlc_top.specs.Clause.{Tally, Came, Ran}
 use Rattle.smlc_top.specs.Prints.{begun, Prints}
 use Rattle.smlc_top.specs.Reader.{IsPositive, total}
 use Rattle.smlc_top.specs.Write.{IsPrefix}
@@ -57,13 +51,11 @@ same_end n m w c p q =
     let k : a.0 ≡ b.0 = omega (arith, a.1, b.1) in
     sym a.2 ∙ ap (λ (k : ℕ). behaviour k w c) k ∙ b.2
 
--- what an end says
-abbrev pub Concludes : End → List ℕ → List ℕ → List ℕ → Type 0
-Concludes (ended.Exit n) text out err = (n ≡ 0) × (out ≡ text) × (err ≡ [])
-Concludes (ended.Trap pc word) text out err = ⊥
-Concludes ended.Steps text out err = ⊥
-Concludes ended.ReadFault text out err = IsPrefix out text × (err ≡ [])
-Concludes ended.WriteFault text out err = IsPrefix out text × (err ≡ [])
+-- what comes of a run that is to print a text
+abbrev pub Concludes : Mend → List ℕ → List ℕ → List ℕ → Type 0
+Concludes (Exited n) text out err = (n ≡ 0) × (out ≡ text) × (err ≡ [])
+Concludes (Trapped pc word) text out err = ⊥
+Concludes Runs text out err = IsPrefix out text × (err ≡ [])
 
 module _ (text : List ℕ) (w : World) (c : List Cut) (last : ℕ)
     (exits : (behaviour last w c).mend ≡ Exited 0) (out_is : (behaviour last w c).world.out ≡ text) (err_is : (behaviour last w c).world.err ≡ []) where
@@ -80,24 +72,20 @@ module _ (text : List ℕ) (w : World) (c : List Cut) (last : ℕ)
       let m' : Wrote v (behaviour last w c).world = subst (λ (u : World). Wrote u (behaviour last w c).world) h m in
       ((m'.more, sym out_is ∙ m'.out), front_nothing v.err m'.more_err (sym m'.err ∙ err_is))
 
-  pub concludes : (end : End) (n steps : ℕ) (t : World) (d : List Cut) → behaviour n w c ≡ record { mend = mend_of end; world = t; cuts = d } → (end ≡ ended.Steps → n ≡ steps) → last ≤ steps → Concludes end text t.out t.err
-  concludes (ended.Exit x) n steps t d h all enough =
-      let stops : (behaviour n w c).mend ≡ Runs → ⊥ = λ r. let e : (behaviour n w c).mend ≡ Exited x = ap (λ (t : Turn). t.mend) h in absurd (cc) in
-      let same = sym h ∙ same_end n last w c stops done_ends in
-      let m : Exited x ≡ Exited 0 = ap (λ (t : Turn). t.mend) same ∙ exits in
-      (cc, ap (λ (t : Turn). t.world.out) same ∙ out_is, ap (λ (t : Turn). t.world.err) same ∙ err_is)
-  concludes (ended.Trap pc word) n steps t d h all enough =
-      let stops : (behaviour n w c).mend ≡ Runs → ⊥ = λ r. let e : (behaviour n w c).mend ≡ Trapped pc word = ap (λ (t : Turn). t.mend) h in absurd (cc) in
-      let same = sym h ∙ same_end n last w c stops done_ends in
-      let m : Trapped pc word ≡ Exited 0 = ap (λ (t : Turn). t.mend) same ∙ exits in
+  pub concludes : (m : Mend) (n : ℕ) (out err : List ℕ) → (behaviour n w c).mend ≡ m → (behaviour n w c).world.out ≡ out → (behaviour n w c).world.err ≡ err → Concludes m text out err
+  concludes (Exited x) n out err h o e =
+      let stops : (behaviour n w c).mend ≡ Runs → ⊥ = λ r. absurd (cc) in
+      let same = same_end n last w c stops done_ends in
+      let m : Exited x ≡ Exited 0 = sym h ∙ ap (λ (t : Turn). t.mend) same ∙ exits in
+      (cc, sym o ∙ ap (λ (t : Turn). t.world.out) same ∙ out_is, sym e ∙ ap (λ (t : Turn). t.world.err) same ∙ err_is)
+  concludes (Trapped pc word) n out err h o e =
+      let stops : (behaviour n w c).mend ≡ Runs → ⊥ = λ r. absurd (cc) in
+      let same = same_end n last w c stops done_ends in
+      let m : Trapped pc word ≡ Exited 0 = sym h ∙ ap (λ (t : Turn). t.mend) same ∙ exits in
       absurd (cc)
-  concludes ended.Steps n steps t d h all enough =
-      let b = behaviour-ended last (n - last) w c done_ends in
-      let k : b.0 ≡ n = omega (arith, b.1, all refl) in
-      let e : Runs ≡ Exited 0 = sym (ap (λ (t : Turn). t.mend) h) ∙ ap (λ (k : ℕ). (behaviour k w c).mend) (sym k) ∙ ap (λ (t : Turn). t.mend) b.2 ∙ exits in
-      absurd (cc)
-  concludes ended.ReadFault n steps t d h all enough = prefix n t (ap (λ (t : Turn). t.world) h)
-  concludes ended.WriteFault n steps t d h all enough = prefix n t (ap (λ (t : Turn). t.world) h)
+  concludes Runs n out err h o e =
+      let p = prefix n (behaviour n w c).world refl in
+      ((p.0.0, p.0.1 ∙ ap (λ (x : List ℕ). x ++ p.0.0) o), sym e ∙ p.1)
 
 -- ---- the image
 
@@ -141,32 +129,9 @@ prints-more image text few most p h = λ input cuts.
     let k = h input cuts in
     record { count = k.count; within = omega (arith, k.within); exits = k.exits; out = k.out; err = k.err }
 
--- what a run of an image that prints a text comes to
-pub run_concludes : (image : Image) (text : List ℕ) (steps : ℕ) (t : State) (left left_now out out_now err err_now : Option (List ℕ)) (end : End) → Prints image text steps →
-    (r : RunsTo steps (loaded image) t left left_now out out_now err err_now end) → Concludes end text r.wrote r.wrote_err
-run_concludes image text steps t left left_now out out_now err err_now end prints r =
-    let c = r.ran.cuts ++ [] in
-    let k = prints left c in
-    concludes text (begun image left) c k.count k.exits k.out k.err
-    end r.count steps (record { state = r.reached; input = r.ran.known; out = r.wrote; err = r.wrote_err }) [] (r.ran.ran []) r.all k.within
-
--- such a run, with what was written, as what it came to
-pub came : (image : Image) (text : List ℕ) (steps : ℕ) (begun t : State) (left left_now out out_now err err_now : Option (List ℕ)) (end : End) → Prints image text steps → begun ≡ loaded image →
-    RunsTo steps begun t left left_now out out_now err err_now end → (before now : Tally) (o : Outcome) → ((w e : List ℕ) → Concludes end text w e → Ran text before now w e o) →
-    Came out out_now err err_now (λ wrote wrote_err. Ran text before now wrote wrote_err o)
-came image text steps begun t left left_now out out_now err err_now end prints p r before now o says =
-    let r' : RunsTo steps (loaded image) t left left_now out out_now err err_now end = subst (λ (x : State). RunsTo steps x t left left_now out out_now err err_now end) p r in
-    record {
-      wrote = r'.wrote;
-      wrote_err = r'.wrote_err;
-      gains = r'.gains;
-      gains_err = r'.gains_err;
-      says = says r'.wrote r'.wrote_err (run_concludes image text steps t left left_now out out_now err err_now end prints r');
-    }
-
--- what the end of such a run says
-pub run_came : (image : Image) (text : List ℕ) (steps : ℕ) (begun t : State) (left left_now out out_now err err_now : Option (List ℕ)) (end : End) → Prints image text steps → begun ≡ loaded image →
-    RunsTo steps begun t left left_now out out_now err err_now end → (w : List ℕ) × (e : List ℕ) × Concludes end text w e
-run_came image text steps begun t left left_now out out_now err err_now end prints p r =
-    let r' : RunsTo steps (loaded image) t left left_now out out_now err err_now end = subst (λ (x : State). RunsTo steps x t left left_now out out_now err err_now end) p r in
-    (r'.wrote, r'.wrote_err, run_concludes image text steps t left left_now out out_now err err_now end prints r')
+-- what comes of a run of an image that prints a text
+pub prints_concludes : (image : Image) (text : List ℕ) (most : ℕ) (input : Option (List ℕ)) (m : Mend) (n : ℕ) (cuts : List Cut) (out err : List ℕ) → Prints image text most →
+    (behaviour n (begun image input) cuts).mend ≡ m → (behaviour n (begun image input) cuts).world.out ≡ out → (behaviour n (begun image input) cuts).world.err ≡ err → Concludes m text out err
+prints_concludes image text most input m n cuts out err prints h o e =
+    let k = prints input cuts in
+    concludes text (begun image input) cuts k.count k.exits k.out k.err m n out err h o e

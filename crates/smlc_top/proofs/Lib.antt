@@ -9,8 +9,11 @@ pub mod Quoted
 pub mod Chain
 pub mod Loadable
 pub mod Lines
-pub mod Words
-pub mod Answering
-pub mod Faults
-pub mod Single
 pub mod Images
+pub mod Running
+pub mod Faults
+pub mod Builds
+pub mod Bounds
+pub mod Answering
+pub mod Jobs
+pub mod Single

@@ -2,9 +2,11 @@ pub mod Form
 pub mod Reader
 pub mod Code
 pub mod Prints
-pub mod Command
 pub mod Texts
 pub mod Write
+pub mod Job
 pub mod Outcome
 pub mod Clause
+pub mod Build
+pub mod Execute
 pub mod Laws

@@ -1,37 +1,47 @@
--- What a command came to, with the line and the status that tell it.
-use Rattle.std.specs.Prelude.{ℕ, ◌≡◌, List, [], Bool, true, false}
+-- What a job came to, with the line and the status that tell it.
+use Rattle.std.specs.Prelude.{ℕ, List, [], Bool, true, false}
 use Rattle.smlc_top.specs.declared.outcome.Outcome.{Outcome}
-use Rattle.smlc_top.specs.declared.outcome.Outcome.TheVariants.{Done, Refused, NoMemory, StoreFault, InputFault, OutFault, ErrFault}
-use Rattle.smlc_base.specs.declared.refusal.Refusal.{Refusal}
-use Rattle.smlc_top.specs.Texts.{refusal_line, memory_line, store_line, input_line, out_line}
+use Rattle.smlc_top.specs.declared.outcome.Outcome.TheVariants.{Done, Exited, Refused, Steps, Trapped, NotElf, NoMemory, LoadFault, SaveFault, InputFault, OutFault, ErrFault}
+use Rattle.smlc_top.specs.Texts.{memory_line, store_line, input_line, out_line, steps_line, exit_line, elf_line, trap_line}
 
-abbrev pub line_of : List ℕ → Outcome → List ℕ
-line_of name Done = []
-line_of name (Refused line) = line.items
-line_of name NoMemory = memory_line
-line_of name StoreFault = store_line name
-line_of name InputFault = input_line
-line_of name OutFault = out_line
-line_of name ErrFault = []
+-- the line, where this file was to be loaded and this name to be saved
+abbrev pub line_of : List ℕ → List ℕ → Outcome → List ℕ
+line_of file target Done = []
+line_of file target (Exited status) = exit_line status
+line_of file target (Refused line) = line.items
+line_of file target (Steps n) = steps_line n
+line_of file target (Trapped pc word) = trap_line pc word
+line_of file target (NotElf kind at) = elf_line kind at
+line_of file target NoMemory = memory_line
+line_of file target LoadFault = store_line file
+line_of file target SaveFault = store_line target
+line_of file target InputFault = input_line
+line_of file target OutFault = out_line
+line_of file target ErrFault = []
 
 abbrev pub status_of : Outcome → ℕ
 status_of Done = 0
+status_of (Exited status) = 0
 status_of (Refused line) = 2
+status_of (Steps n) = 4
+status_of (Trapped pc word) = 9
+status_of (NotElf kind at) = 8
 status_of NoMemory = 6
-status_of StoreFault = 5
+status_of LoadFault = 5
+status_of SaveFault = 5
 status_of InputFault = 5
 status_of OutFault = 5
 status_of ErrFault = 5
 
 abbrev pub is_fault : Outcome → Bool
-is_fault StoreFault = true
+is_fault LoadFault = true
+is_fault SaveFault = true
 is_fault InputFault = true
 is_fault OutFault = true
 is_fault ErrFault = true
 is_fault _ = false
 
--- a refusal with its line, or want of memory
-abbrev pub Refuses : List ℕ → Refusal → Outcome → Type 0
-Refuses name refusal (Refused line) = line.items ≡ refusal_line name refusal
-Refuses name refusal NoMemory = Unit {0}
-Refuses name refusal _ = ⊥
+-- an exit isn't told
+abbrev pub ended_outcome : Outcome → Outcome
+ended_outcome (Exited status) = Done
+ended_outcome o = o

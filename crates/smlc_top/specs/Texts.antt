@@ -1,10 +1,14 @@
 -- The lines that the program writes on its error stream.
 use Rattle.std.specs.Prelude.{ℕ, List, [], ◌∷◌, ◌++◌, codes}
 use Rattle.std.specs.Fmt.{decimal}
+use Rattle.std.specs.Int.{w32, w64, to_be_bytes}
+use Rattle.hex.specs.Hex.{encode_lower}
 use Rattle.smlc_base.specs.declared.place.Place.{Place}
 use Rattle.smlc_base.specs.declared.refusal.Refusal.{Refusal}
 use Rattle.smlc_base.specs.declared.refusal.Refusal.TheVariants.{NotInSubset}
 use Rattle.smlc_base.specs.Refusals.{number_of, kind_of, place_of, word_of}
+use Rattle.elf_static.specs.declared.error.ElfKind.{ElfKind}
+use Rattle.elf_static.specs.Kinds.{word_of as word_of_kind}
 
 abbrev pub newline : List ℕ
 newline = 10 ∷ []
@@ -36,3 +40,19 @@ input_line = codes "fault input" ++ newline
 
 abbrev pub out_line : List ℕ
 out_line = codes "fault out" ++ newline
+
+-- so many instructions were done
+abbrev pub steps_line : ℕ → List ℕ
+steps_line n = codes "steps " ++ decimal n ++ newline
+
+-- the program exited with this status
+abbrev pub exit_line : ℕ → List ℕ
+exit_line status = codes "exit " ++ decimal status ++ newline
+
+-- the check that failed, and its offset in the file
+abbrev pub elf_line : ElfKind → ℕ → List ℕ
+elf_line kind at = codes "not elf " ++ word_of_kind kind ++ (codes " at " ++ decimal at ++ newline)
+
+-- there is no step: pc and the word there, in 16 and 8 hexadecimal digits
+abbrev pub trap_line : ℕ → ℕ → List ℕ
+trap_line pc word = codes "trap " ++ encode_lower (to_be_bytes w64 pc) ++ (codes " " ++ encode_lower (to_be_bytes w32 word) ++ newline)

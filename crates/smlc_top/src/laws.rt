@@ -1,9 +1,8 @@
 //! Laws of the definitions.
 
-ghost use Rattle.smlc_top.specs.Laws.{OneMeaning, OneStatus};
+ghost use Rattle.smlc_top.specs.Laws.{OneMeaning};
 
-/// A file has at most one text or one refusal, and the words have one status.
-pub fn answers_are_single()
-    ensures meaning { OneMeaning }
-    ensures status { OneStatus }
+/// A file has at most one text, at most one refusal, and not both.
+pub fn files_mean_one_thing()
+    ensures { OneMeaning }
 {}

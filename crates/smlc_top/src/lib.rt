@@ -1,11 +1,13 @@
-//! The command line: what the words ask for, and the command `run` for files of print lines.
+//! The command line: `run` and `compile` for files of print lines, and `exec` for ELF files.
 //!
-//! It stands on the machine and on the outside. Its main contract: `smlc_main` answers each status exactly where its clause says,
-//! and what the file's lines print, and nothing else, is written on `out`.
+//! It stands on the machine, on ELF files, on the words of the command line and on the outside. Its main contract: `smlc_main` answers
+//! each status exactly where its clause says, and what the file's lines print, and nothing else, is written on `out`.
 #![tactic(auto)]
 
+pub mod build;
 pub mod code;
-pub mod command;
+pub mod execute;
+pub mod job;
 pub mod laws;
 pub mod outcome;
 pub mod reader;

@@ -1,26 +1,44 @@
-//! What a command came to, and the line and the status that tell it.
+//! What a job came to, and the line and the status that tell it.
 
-ghost use Rattle.std.specs.Prelude.{◌≡◌, ◌++◌, IfOk, OnOk};
-ghost use Rattle.smlc_top.specs.Texts.{place_text, banned_text, refusal_line, store_line};
-ghost use Rattle.smlc_top.specs.Write.{Said};
+ghost use Rattle.std.specs.Prelude.{◌≡◌, ◌++◌, IfOk, OnOk, codes, ◌∷◌, []};
+ghost use Rattle.std.specs.Fmt.{decimal};
+ghost use Rattle.std.specs.Int.{w32, w64, to_be_bytes};
+ghost use Rattle.hex.specs.Hex.{encode_lower};
+ghost use Rattle.elf_static.specs.Kinds.{word_of as word_of_kind};
+ghost use Rattle.smlc_top.specs.Texts.{place_text, banned_text, refusal_line, store_line, newline, elf_line, trap_line, steps_line, exit_line};
+ghost use Rattle.smlc_top.specs.Write.{Whole, Said};
 ghost use Rattle.smlc_top.specs.Outcome.{line_of, status_of};
+ghost use Rattle.smlc_edge.specs.Edge.{Counts};
+ghost use Rattle.std.specs.Prelude.{IsOk};
 
-use crate::write::{say, write_line};
+use crate::write::{say, say_line, write_both, write_line};
+use elf_static::ElfKind;
+use itoa::Buffer;
 use smlc_base::{NoMemory, Place, Refusal};
-use smlc_edge::Sink;
+use smlc_edge::{Failed, Sink};
 use std::alloc::Global;
 
-/// What a command came to.
+/// What a job came to.
 #[derive(Debug, Drop)]
 pub enum Outcome {
     /// All was done.
     Done,
+    /// The program exited with this status.
+    Exited(u8),
     /// The program was refused, with the line that says so.
     Refused(Vec<u8>),
+    /// So many instructions were done, and the program goes on.
+    Steps(u64),
+    /// There is no step; the word at pc, or 0 where none can be fetched.
+    Trapped { pc: u64, word: u32 },
+    /// The file is no ELF file that can be run: the check that failed, and its offset.
+    NotElf(ElfKind, u64),
     /// Memory was wanting.
     NoMemory,
     /// The file wasn't loaded.
-    StoreFault,
+    LoadFault,
+    /// What was made wasn't saved.
+    SaveFault,
     /// A read of the input failed.
     InputFault,
     /// A write on the output failed.
@@ -32,28 +50,81 @@ pub enum Outcome {
 /// The usage, which tells that the words are no command.
 pub const USAGE: &[u8] = b"usage: smlc compile|run|meter|exec|types|plan|gen|bench\n";
 
-/// Writes the line of what a command came to, and answers its status, or 5 where the error stream failed.
-pub fn report<E: Sink>(err: &mut E, name: &str, outcome: &Outcome) -> u8
-    ensures said { Said (line_of name.now outcome.now) (status_of outcome.now) result (E.faults err.old) (E.faults err.new) (E.taken err.old) (E.taken err.new) }
+/// Tells want of memory.
+pub const MEMORY: &[u8] = b"want of memory\n";
+
+/// Writes the line of what a job came to, and answers its status, or 5 where the error stream failed. It takes no memory.
+pub fn report<E: Sink>(err: &mut E, file: &str, target: &str, outcome: &Outcome) -> u8
+    ensures said { Said (line_of file.now target.now outcome.now) (status_of outcome.now) result (E.faults err.old) (E.faults err.new) (E.taken err.old) (E.taken err.new) }
     ensures surely { E.sure err.old → result ≡ status_of outcome.now }
 {
     match outcome {
         Outcome::Done => 0,
+        Outcome::Exited(status) => say_number(err, b"exit ", *status as u64, 0),
         Outcome::Refused(line) => say(err, line, 2),
-        Outcome::NoMemory => say(err, b"want of memory\n", 6),
-        Outcome::StoreFault => say_not_loaded(err, name),
+        Outcome::Steps(steps) => say_number(err, b"steps ", *steps, 4),
+        Outcome::Trapped { pc, word } => say_trap(err, *pc, *word),
+        Outcome::NotElf(kind, at) => say_not_elf(err, *kind, *at),
+        Outcome::NoMemory => say(err, MEMORY, 6),
+        Outcome::LoadFault => say_line(err, b"fault store ", file.as_bytes(), 5),
+        Outcome::SaveFault => say_line(err, b"fault store ", target.as_bytes(), 5),
         Outcome::InputFault => say(err, b"fault input\n", 5),
         Outcome::OutFault => say(err, b"fault out\n", 5),
         Outcome::ErrFault => 5,
     }
 }
 
-fn say_not_loaded<E: Sink>(err: &mut E, name: &str) -> u8
-    ensures { Said (store_line name.now) 5 result (E.faults err.old) (E.faults err.new) (E.taken err.old) (E.taken err.new) }
+fn say_number<E: Sink>(err: &mut E, words: &[u8], number: u64, status: u8) -> u8
+    ensures said { Said (words.now ++ decimal number ++ newline) status result (E.faults err.old) (E.faults err.new) (E.taken err.old) (E.taken err.new) }
+    ensures surely { E.sure err.old → result ≡ status }
 {
-    match write_line(err, b"fault store ", name.as_bytes()) {
-        Ok(()) => 5,
+    let mut buffer = Buffer::new();
+    say_line(err, words, buffer.format(number).as_bytes(), status)
+}
+
+fn say_not_elf<E: Sink>(err: &mut E, kind: ElfKind, at: u64) -> u8
+    ensures said { Said (elf_line kind at) 8 result (E.faults err.old) (E.faults err.new) (E.taken err.old) (E.taken err.new) }
+    ensures surely { E.sure err.old → result ≡ 8 }
+{
+    let mut buffer = Buffer::new();
+    let number = buffer.format(at);
+    match write_both(err, b"not elf ", kind.word().as_bytes()) {
+        Ok(()) => say_line(err, b" at ", number.as_bytes(), 8),
         Err(_) => 5,
+    }
+}
+
+fn say_trap<E: Sink>(err: &mut E, pc: u64, word: u32) -> u8
+    ensures said { Said (trap_line pc word) 9 result (E.faults err.old) (E.faults err.new) (E.taken err.old) (E.taken err.new) }
+    ensures surely { E.sure err.old → result ≡ 9 }
+{
+    let pc_digits = double_digits(pc);
+    let word_digits = word_digits(word);
+    match write_both(err, b"trap ", &pc_digits) {
+        Ok(()) => say_line(err, b" ", &word_digits, 9),
+        Err(_) => 5,
+    }
+}
+
+// The 16 hexadecimal digits of a number.
+fn double_digits(number: u64) -> [u8; 16]
+    ensures { result ≡ encode_lower (to_be_bytes w64 number) }
+{
+    let mut digits = [0u8; 16];
+    match hex::encode_to_slice(number.to_be_bytes(), &mut digits) {
+        Ok(()) => digits,
+        Err(_) => unreachable!(),
+    }
+}
+
+// The 8 hexadecimal digits of a number.
+fn word_digits(number: u32) -> [u8; 8]
+    ensures { result ≡ encode_lower (to_be_bytes w32 number) }
+{
+    let mut digits = [0u8; 8];
+    match hex::encode_to_slice(number.to_be_bytes(), &mut digits) {
+        Ok(()) => digits,
+        Err(_) => unreachable!(),
     }
 }
 

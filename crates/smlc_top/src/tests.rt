@@ -1,7 +1,7 @@
 //! The command on files, faults and sinks of all kinds.
 
 use super::*;
-use smlc_edge::{Failed, MemSink, MemSource, MemStore, QuietSink, QuietSource, Sink};
+use smlc_edge::{Failed, MemSink, MemSource, MemStore, QuietSink, QuietSource, Sink, Store};
 use std::alloc::Global;
 use std::test::Fail;
 
@@ -181,11 +181,11 @@ fn words_that_are_no_command(rt: HostRuntime) -> Result<(), Fail> {
     let alloc = rt.alloc();
     let cases: [&[&str]; 6] = [
         &[],
-        &["smlc"],
         &["smlc", "run"],
-        &["smlc", "run", "-f"],
+        &["smlc", "run", "f.sml", "--arena=2048"],
         &["smlc", "compile", "f.sml"],
         &["smlc", "run", "f.sml", "g.sml"],
+        &["smlc", "types", "f.sml"],
     ];
     for case in cases {
         let mut store = MemStore::new(alloc, Vec::new(alloc));
@@ -200,6 +200,81 @@ fn words_that_are_no_command(rt: HostRuntime) -> Result<(), Fail> {
             err.bytes(),
             b"usage: smlc compile|run|meter|exec|types|plan|gen|bench\n".as_slice()
         );
+    }
+    Ok(())
+}
+
+const HELLO: &[u8] = b"val _ = print \"hello\\n\"\n";
+
+/// Where an ELF file is changed, what it gets there, and what running it says.
+const CHANGES: &[(usize, &[u8], &str, u8)] = &[
+    (136, b"\0\0\x01\0", "not elf Overlap at 136\n", 8),
+    (4096, b"\0\0\0\0", "trap 0000000000010000 00000000\n", 9),
+    (24, b"\0\0\x01\0", "exit 0\n", 0),
+];
+
+// What `exec` of these bytes answers and says.
+fn executed(alloc: Global, bytes: &[u8], err: &mut MemSink) -> Result<u8, Fail> {
+    let mut store = MemStore::new(alloc, Vec::new(alloc));
+    store.add("a", bytes)?;
+    let mut input = QuietSource::new(Vec::new(alloc));
+    let mut out = QuietSink::new();
+    let words = words(alloc, &["smlc", "exec", "a"])?;
+    Ok(smlc_main(alloc, &words, &mut store, &mut input, &mut out, err))
+}
+
+#[test]
+fn what_is_compiled_is_run(rt: HostRuntime) -> Result<(), Fail> {
+    let alloc = rt.alloc();
+    let mut store = MemStore::new(alloc, Vec::new(alloc));
+    store.add("f.sml", HELLO)?;
+    store.reserve("a", 20_000)?;
+    let mut input = QuietSource::new(Vec::new(alloc));
+    let mut out = MemSink::new(alloc, Vec::new(alloc));
+    out.reserve(100)?;
+    let mut err = QuietSink::new();
+    let words = words(alloc, &["smlc", "compile", "f.sml", "-o", "a"])?;
+    let status = smlc_main(alloc, &words, &mut store, &mut input, &mut out, &mut err);
+    assert_eq!(rt; status, 0);
+    assert_eq!(rt; out.bytes(), b"".as_slice());
+    let mut bytes = store.load(alloc, "a")?;
+    for (at, new, line, status) in CHANGES {
+        let mut changed = bytes.clone()?;
+        assert!(rt; at + new.len() <= changed.len());
+        changed[*at..*at + new.len()].copy_from_slice(new);
+        let mut said = MemSink::new(alloc, Vec::new(alloc));
+        said.reserve(100)?;
+        assert_eq!(rt; executed(alloc, &changed, &mut said)?, *status);
+        assert_eq!(rt; said.bytes(), line.as_bytes());
+    }
+    bytes.truncate(100);
+    let mut said = MemSink::new(alloc, Vec::new(alloc));
+    said.reserve(100)?;
+    assert_eq!(rt; executed(alloc, &bytes, &mut said)?, 8);
+    assert_eq!(rt; said.bytes(), b"not elf Short at 100\n".as_slice());
+    Ok(())
+}
+
+#[test]
+fn the_steps_are_exact(rt: HostRuntime) -> Result<(), Fail> {
+    let alloc = rt.alloc();
+    for (steps, status, line) in [
+        ("0", 4, "steps 0\n"),
+        ("11", 4, "steps 11\n"),
+        ("12", 0, ""),
+    ] {
+        let mut store = MemStore::new(alloc, Vec::new(alloc));
+        store.add("f.sml", HELLO)?;
+        let mut input = QuietSource::new(Vec::new(alloc));
+        let mut out = QuietSink::new();
+        let mut err = MemSink::new(alloc, Vec::new(alloc));
+        err.reserve(100)?;
+        let words = words(alloc, &["smlc", "run", "f.sml", "--steps", steps])?;
+        assert_eq!(rt;
+            smlc_main(alloc, &words, &mut store, &mut input, &mut out, &mut err),
+            status
+        );
+        assert_eq!(rt; err.bytes(), line.as_bytes());
     }
     Ok(())
 }

@@ -1,34 +1,26 @@
 //! The top call.
 
-ghost use Rattle.std.specs.Prelude.{◌≡◌, ◌≢◌, ◌↔◌, ◌≤◌, ◌⊎◌, List, ℕ, map, string_bytes, IsTrue, false};
-ghost use Rattle.smlc_edge.specs.Edge.{Rose};
-ghost use Rattle.elf_static.specs.Load.{IsLoadable};
-ghost use Rattle.smlc_top.specs.Command.{Runs};
-ghost use Rattle.smlc_top.specs.Prints.{Prints};
-ghost use Rattle.smlc_top.specs.Outcome.{is_fault, Refuses};
-ghost use Rattle.smlc_top.specs.Clause.{tally, Came, Answers, Performed, Filed, Ran};
+ghost use Rattle.std.specs.Prelude.{◌≡◌, ◌≢◌, List, [], ℕ, Option, map, string_bytes, false};
+ghost use Rattle.smlc_top.specs.Job.{RunFile, CompileFile, ExecFile, IsAsked, Serves, job_of};
+ghost use Rattle.smlc_top.specs.Job.{Job as Wanted};
+ghost use Rattle.smlc_top.specs.Outcome.{is_fault, ended_outcome};
+ghost use Rattle.smlc_top.specs.Clause.{tally, Came, Answers, Performed};
 
-use crate::code::make;
-use crate::command::operand;
-use crate::outcome::{Outcome, USAGE, refusal_text, report};
-use crate::reader::{Reading, read_file};
+use crate::build::{Built, build};
+use crate::execute::execute;
+use crate::job::{Job, find_job};
+use crate::outcome::{MEMORY, Outcome, USAGE, report};
 use crate::write::say;
-use elf_static::Image;
-use rv_machine::{End, Machine};
-use smlc_base::{Banned, Place, Refusal};
 use smlc_edge::{Sink, Source, Store, StoreError};
 use std::alloc::Global;
 
-/// How many instructions a run does at the most.
-const STEPS: u64 = 1_000_000_000;
-
-/// The most bytes of a file.
-const MOST: usize = 1_048_576;
-
 /// Does what the words say, and answers the status.
 ///
-/// `run FILE` compiles a file of print lines and runs it: what the lines print goes to `out`, and the line of a refusal or a fault to `err`.
-/// The status is 0 where all was done, 2 where the file was refused, 5 where the outside failed, 6 for want of memory, and 7 where the words are no command.
+/// `run FILE [--steps N]` compiles a file of print lines and runs it, `compile FILE -o OUT` saves what was made as an ELF file, and
+/// `exec ELF [--steps N]` runs any ELF file that keeps to the system calls of the machine.
+/// What the program prints goes to `out`, and the line of the status to `err`. The status is 0 where all was done, 2 where the file was refused,
+/// 4 where so many instructions were done and the program goes on, 5 where the outside failed, 6 for want of memory, 7 where the words are no command,
+/// 8 where the file is no ELF file that can be run, and 9 where the machine has no step.
 pub fn smlc_main<F: Store, I: Source, O: Sink, E: Sink>(
     alloc: Global,
     words: &[String],
@@ -38,132 +30,129 @@ pub fn smlc_main<F: Store, I: Source, O: Sink, E: Sink>(
     err: &mut E,
 ) -> u8
     ensures answer { Came (O.taken out.old) (O.taken out.new) (E.taken err.old) (E.taken err.new) (λ wrote wrote_err.
-        Answers (map string_bytes words.now) (F.files store.old)
+        Answers (map string_bytes words.now) (F.files store.old) (F.files store.new)
         (tally (F.faults store.old) (I.faults input.old) (O.faults out.old) (E.faults err.old))
-        (tally (F.faults store.new) (I.faults input.new) (O.faults out.new) (E.faults err.new)) wrote wrote_err result) }
+        (tally (F.faults store.new) (I.faults input.new) (O.faults out.new) (E.faults err.new)) (I.left input.old) wrote wrote_err result) }
 
     // Where the outside is sure, no fault is answered.
-    ensures sure { ((name : List ℕ) → Runs (map string_bytes words.now) name → F.surely_loads store.old name) →
+    ensures sure { ((job : Wanted) → IsAsked (map string_bytes words.now) job → Serves job (F.surely_loads store.old) (F.surely_saves store.old)) →
         I.sure input.old → O.sure out.old → E.sure err.old → result ≢ 5 }
 {
-    let Some(name) = operand(words) else {
-        return say(err, USAGE, 7);
-    };
-    let outcome = perform(alloc, name, store, input, out, err);
-    report(err, name, &outcome)
+    match find_job(alloc, words) {
+        Ok(Some(job)) => do_job(alloc, job, store, input, out, err),
+        Ok(None) => say(err, USAGE, 7),
+        Err(_) => say(err, MEMORY, 6),
+    }
 }
 
-// `run` of a name.
-fn perform<F: Store, I: Source, O: Sink, E: Sink>(
+// Does a job, and answers the status.
+fn do_job<F: Store, I: Source, O: Sink, E: Sink>(
+    alloc: Global,
+    job: Job<'_>,
+    store: &mut F,
+    input: &mut I,
+    out: &mut O,
+    err: &mut E,
+) -> u8
+    ensures answer { (words : List (List ℕ)) → IsAsked words (job_of job.entry) → Came (O.taken out.old) (O.taken out.new) (E.taken err.old) (E.taken err.new) (λ wrote wrote_err.
+        Answers words (F.files store.old) (F.files store.new)
+        (tally (F.faults store.old) (I.faults input.old) (O.faults out.old) (E.faults err.old))
+        (tally (F.faults store.new) (I.faults input.new) (O.faults out.new) (E.faults err.new)) (I.left input.old) wrote wrote_err result) }
+    ensures sure { Serves (job_of job.entry) (F.surely_loads store.old) (F.surely_saves store.old) →
+        I.sure input.old → O.sure out.old → E.sure err.old → result ≢ 5 }
+{
+    match job {
+        Job::Run { file, steps } => {
+            let outcome = run(alloc, file, steps, store, input, out, err);
+            report(err, file, "", &outcome)
+        }
+        Job::Compile { file, target } => {
+            let outcome = compile(alloc, file, target, store);
+            report(err, file, target, &outcome)
+        }
+        Job::Exec { file, steps } => {
+            let outcome = exec(alloc, file, steps, store, input, out, err);
+            report(err, file, "", &outcome)
+        }
+    }
+}
+
+// Compiles a file and runs it.
+fn run<F: Store, I: Source, O: Sink, E: Sink>(
     alloc: Global,
     name: &str,
+    steps: u64,
     store: &mut F,
     input: &mut I,
     out: &mut O,
     err: &mut E,
 ) -> Outcome
     ensures performed { Came (O.taken out.old) (O.taken out.new) (E.taken err.old) (E.taken err.new) (λ wrote wrote_err.
-        Performed name.now (F.files store.old)
+        Performed (RunFile name.now steps) (F.files store.old) (F.files store.new)
         (tally (F.faults store.old) (I.faults input.old) (O.faults out.old) (E.faults err.old))
-        (tally (F.faults store.new) (I.faults input.new) (O.faults out.new) (E.faults err.new)) wrote wrote_err result) }
+        (tally (F.faults store.new) (I.faults input.new) (O.faults out.new) (E.faults err.new)) (I.left input.old) wrote wrote_err result) }
     ensures sure { F.surely_loads store.old name.now → I.sure input.old → O.sure out.old → E.sure err.old → (is_fault result ≡ false) × E.sure err.new }
 {
     match store.load(alloc, name) {
-        Ok(file) => run_file(alloc, name, &file, input, out, err),
+        Ok(file) => match build(alloc, name, &file) {
+            Built::Elf(bytes) => ended(execute(alloc, &bytes, steps, input, out, err)),
+            Built::Refused(line) => Outcome::Refused(line),
+            Built::NoMemory => Outcome::NoMemory,
+        },
         Err(StoreError::NoMemory) => Outcome::NoMemory,
-        Err(StoreError::Failed) => Outcome::StoreFault,
+        Err(StoreError::Failed) => Outcome::LoadFault,
     }
 }
 
-// Refuses a file, or runs it.
-fn run_file<I: Source, O: Sink, E: Sink>(
+// The outcome of `run`, which doesn't tell the status of an exit.
+fn ended(outcome: Outcome) -> Outcome
+    ensures { result ≡ ended_outcome outcome }
+{
+    match outcome {
+        Outcome::Exited(_) => Outcome::Done,
+        other => other,
+    }
+}
+
+// Compiles a file and saves what was made.
+fn compile<F: Store>(alloc: Global, name: &str, target: &str, store: &mut F) -> Outcome
+    ensures performed { (i o e : ℕ) (input : Option (List ℕ)) → Performed (CompileFile name.now target.now) (F.files store.old) (F.files store.new)
+        (tally (F.faults store.old) i o e) (tally (F.faults store.new) i o e) input [] [] result }
+    ensures sure { F.surely_loads store.old name.now → F.surely_saves store.old target.now 8589934592 → is_fault result ≡ false }
+{
+    match store.load(alloc, name) {
+        Ok(file) => match build(alloc, name, &file) {
+            Built::Elf(bytes) => match store.save(target, &bytes) {
+                Ok(()) => Outcome::Done,
+                Err(_) => Outcome::SaveFault,
+            },
+            Built::Refused(line) => Outcome::Refused(line),
+            Built::NoMemory => Outcome::NoMemory,
+        },
+        Err(StoreError::NoMemory) => Outcome::NoMemory,
+        Err(StoreError::Failed) => Outcome::LoadFault,
+    }
+}
+
+// Runs an ELF file.
+fn exec<F: Store, I: Source, O: Sink, E: Sink>(
     alloc: Global,
     name: &str,
-    file: &[u8],
+    steps: u64,
+    store: &mut F,
     input: &mut I,
     out: &mut O,
     err: &mut E,
 ) -> Outcome
-    ensures filed { (store : ℕ) → Came (O.taken out.old) (O.taken out.new) (E.taken err.old) (E.taken err.new) (λ wrote wrote_err.
-        Filed name.now file.now (tally store (I.faults input.old) (O.faults out.old) (E.faults err.old))
-        (tally store (I.faults input.new) (O.faults out.new) (E.faults err.new)) wrote wrote_err result) }
-    ensures sure { I.sure input.old → O.sure out.old → E.sure err.old → (is_fault result ≡ false) × E.sure err.new }
+    ensures performed { Came (O.taken out.old) (O.taken out.new) (E.taken err.old) (E.taken err.new) (λ wrote wrote_err.
+        Performed (ExecFile name.now steps) (F.files store.old) (F.files store.new)
+        (tally (F.faults store.old) (I.faults input.old) (O.faults out.old) (E.faults err.old))
+        (tally (F.faults store.new) (I.faults input.new) (O.faults out.new) (E.faults err.new)) (I.left input.old) wrote wrote_err result) }
+    ensures sure { F.surely_loads store.old name.now → I.sure input.old → O.sure out.old → E.sure err.old → (is_fault result ≡ false) × E.sure err.new }
 {
-    if file.len() > MOST {
-        return refuse(alloc, name, Refusal::TooLong(first_column(1)));
+    match store.load(alloc, name) {
+        Ok(file) => execute(alloc, &file, steps, input, out, err),
+        Err(StoreError::NoMemory) => Outcome::NoMemory,
+        Err(StoreError::Failed) => Outcome::LoadFault,
     }
-    match read_file(alloc, file) {
-        Ok(Reading::Stops(line)) => refuse(
-            alloc,
-            name,
-            Refusal::NotInSubset(first_column(line + 1), Banned::Later),
-        ),
-        Ok(Reading::Text(printed)) => match make(alloc, printed) {
-            Ok(image) => run_image(alloc, &image, input, out, err),
-            Err(_) => Outcome::NoMemory,
-        },
-        Err(_) => Outcome::NoMemory,
-    }
-}
-
-// The first column of a line of the user's file.
-fn first_column(line: u32) -> Place
-    ensures { result ≡ record { file = 1; line = line; col = 1 } }
-{
-    Place {
-        file: 1,
-        line,
-        col: 1,
-    }
-}
-
-fn refuse(alloc: Global, name: &str, refusal: Refusal) -> Outcome
-    ensures { Refuses name.now refusal result }
-{
-    match refusal_text(alloc, name, &refusal) {
-        Ok(line) => Outcome::Refused(line),
-        Err(_) => Outcome::NoMemory,
-    }
-}
-
-// Runs an image that prints a text.
-fn run_image<I: Source, O: Sink, E: Sink>(
-    alloc: Global,
-    image: &Image,
-    input: &mut I,
-    out: &mut O,
-    err: &mut E,
-) -> Outcome
-    requires loadable { IsLoadable image.now }
-    requires prints { (text : List ℕ) × Prints image.now text STEPS }
-    ensures ran { (store : ℕ) (text : List ℕ) → Prints image.now text STEPS → Came (O.taken out.old) (O.taken out.new) (E.taken err.old) (E.taken err.new) (λ wrote wrote_err.
-        Ran text (tally store (I.faults input.old) (O.faults out.old) (E.faults err.old))
-        (tally store (I.faults input.new) (O.faults out.new) (E.faults err.new)) wrote wrote_err result) }
-    ensures sure { I.sure input.old → O.sure out.old → E.sure err.old → (is_fault result ≡ false) × E.sure err.new }
-{
-    let Ok(mut machine) = Machine::load(alloc, image) else {
-        return Outcome::NoMemory;
-    };
-    let before = out.faults();
-    match machine.run(STEPS, input, out, err) {
-        End::Exit(_) => Outcome::Done,
-        End::ReadFault => Outcome::InputFault,
-        End::WriteFault => {
-            if rose(before, out.faults()) {
-                Outcome::OutFault
-            } else {
-                Outcome::ErrFault
-            }
-        }
-        // The code comes to its exit within these steps.
-        End::Trap { .. } => unreachable!(),
-        End::Steps => unreachable!(),
-    }
-}
-
-// Whether a count of faults rose, or stands at its greatest value.
-fn rose(before: u64, now: u64) -> bool
-    ensures { IsTrue result ↔ Rose before now }
-{
-    before < now || now == u64::MAX
 }

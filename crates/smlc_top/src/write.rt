@@ -55,3 +55,14 @@ pub fn say<E: Sink>(err: &mut E, line: &[u8], status: u8) -> u8
         Err(_) => 5,
     }
 }
+
+/// Writes bytes, bytes behind them and a newline, and answers the status, or 5 where the sink failed.
+pub fn say_line<E: Sink>(err: &mut E, first: &[u8], second: &[u8], status: u8) -> u8
+    ensures said { Said (first.now ++ second.now ++ newline) status result (E.faults err.old) (E.faults err.new) (E.taken err.old) (E.taken err.new) }
+    ensures surely { E.sure err.old → (result ≡ status) × E.sure err.new }
+{
+    match write_line(err, first, second) {
+        Ok(()) => status,
+        Err(_) => 5,
+    }
+}

@@ -1,19 +1,21 @@
 use Rattle.std.specs.Prelude.{map, string_bytes}
-use Rattle.smlc_top.specs.Clause.{tally}
-use Rattle.smlc_top.proofs.Answering.{answered, said_usage}
+use Rattle.smlc_top.specs.Texts.{usage_line, memory_line}
+use Rattle.smlc_top.specs.Clause.{tally, no_command, no_memory}
+use Rattle.smlc_top.proofs.Answering.{said_plain}
 use Rattle.smlc_top.proofs.top.smlc_main.Goals as goal
 
-pub returns-in_default-clause-answer : goal.returns-in_default-clause-answer
-returns-in_default-clause-answer g c =
-    said_usage (map string_bytes c.args.words.now) (g.F.Store.files c.args.store.now)
-    (tally (g.F.Store.faults c.args.store.now) (g.I.Source.faults c.args.input.now) (g.O.Sink.faults c.args.out.now) (g.E.Sink.faults c.args.err.now)) (g.E.Sink.faults c.say.new.err) c.say.result
-    (g.O.Sink.taken c.args.out.now) (g.E.Sink.taken c.args.err.now) (g.E.Sink.taken c.say.new.err) c.in_default.ensures.none c.say.ensures.said
+pub returns-in-Ok-Some-clause-answer : goal.returns-in-Ok-Some-clause-answer
+returns-in-Ok-Some-clause-answer g c =
+    let k = rw c.in-Ok-Some.field-0-is at c.in-Ok-Some.ensures.some in
+    c.do_job.ensures.answer (map string_bytes c.args.words.now) k
 
-pub returns-clause-answer : goal.returns-clause-answer
-returns-clause-answer g c =
-    let now = c.perform-outcome.new in
-    answered (map string_bytes c.args.words.now) (g.F.Store.files c.args.store.now) c.in-Some.name.now
-    (tally (g.F.Store.faults c.args.store.now) (g.I.Source.faults c.args.input.now) (g.O.Sink.faults c.args.out.now) (g.E.Sink.faults c.args.err.now))
-    (tally (g.F.Store.faults now.store) (g.I.Source.faults now.input) (g.O.Sink.faults now.out) (g.E.Sink.faults now.err)) (g.E.Sink.faults c.report.new.err) c.report.result
-    (g.O.Sink.taken c.args.out.now) (g.O.Sink.taken now.out) (g.E.Sink.taken c.args.err.now) (g.E.Sink.taken now.err) (g.E.Sink.taken c.report.new.err)
-    c.perform-outcome.result c.in-Some.ensures.some c.perform-outcome.ensures.performed c.report.ensures.said
+pub returns-in-Ok-None-clause-answer : goal.returns-in-Ok-None-clause-answer
+returns-in-Ok-None-clause-answer g c =
+    let k = rw c.in-Ok-None.field-0-is at c.in-Ok-None.ensures.none in
+    said_plain (map string_bytes c.args.words.now) (g.F.Store.files c.args.store.now) usage_line 7 (tally (g.F.Store.faults c.args.store.now) (g.I.Source.faults c.args.input.now) (g.O.Sink.faults c.args.out.now) (g.E.Sink.faults c.args.err.now)) (g.I.Source.left c.args.input.now) (g.E.Sink.faults c.say.new.err) c.say.result
+    (g.O.Sink.taken c.args.out.now) (g.E.Sink.taken c.args.err.now) (g.E.Sink.taken c.say.new.err) (no_command k) c.say.ensures.said
+
+pub returns-in-Err-clause-answer : goal.returns-in-Err-clause-answer
+returns-in-Err-clause-answer g c =
+    said_plain (map string_bytes c.args.words.now) (g.F.Store.files c.args.store.now) memory_line 6 (tally (g.F.Store.faults c.args.store.now) (g.I.Source.faults c.args.input.now) (g.O.Sink.faults c.args.out.now) (g.E.Sink.faults c.args.err.now)) (g.I.Source.left c.args.input.now) (g.E.Sink.faults c.say-in-Err.new.err) c.say-in-Err.result
+    (g.O.Sink.taken c.args.out.now) (g.E.Sink.taken c.args.err.now) (g.E.Sink.taken c.say-in-Err.new.err) no_memory c.say-in-Err.ensures.said

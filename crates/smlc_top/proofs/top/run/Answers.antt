@@ -1,0 +1,34 @@
+use Rattle.std.proofs.Common.{ℕ, refl, sym, subst}
+use Rattle.smlc_top.specs.Job.{RunFile}
+use Rattle.smlc_top.specs.Outcome.{ended_outcome}
+use Rattle.smlc_top.specs.Clause.{tally, Performed, want, load_failed}
+use Rattle.smlc_top.proofs.Faults.{came_none, came_so}
+use Rattle.smlc_top.proofs.Jobs.{run_executed, run_said}
+use Rattle.smlc_top.proofs.top.run.Goals as goal
+
+pub returns-in-Elf-clause-performed : goal.returns-in-Elf-clause-performed
+returns-in-Elf-clause-performed g c =
+    let b = c.in-Elf.ensures in
+    rw c.ended.ensures (came_so (g.O.Sink.taken c.args.out.now) (g.O.Sink.taken c.execute.new.out) (g.E.Sink.taken c.args.err.now) (g.E.Sink.taken c.execute.new.err) _ _
+    (λ w e h. subst (λ (n : ℕ). Performed (RunFile c.args.name.now c.args.steps) (g.F.Store.files c.args.store.now) (g.F.Store.files c.load.new.self) (tally (g.F.Store.faults c.args.store.now) (g.I.Source.faults c.args.input.now) (g.O.Sink.faults c.args.out.now) (g.E.Sink.faults c.args.err.now)) (tally n (g.I.Source.faults c.execute.new.input) (g.O.Sink.faults c.execute.new.out) (g.E.Sink.faults c.execute.new.err)) (g.I.Source.left c.args.input.now) w e (ended_outcome c.execute.result)) (sym c.in-Ok.ensures.cause)
+    (run_executed c.args.name.now (g.F.Store.files c.args.store.now) (g.F.Store.files c.load.new.self) c.args.steps c.in-Ok.file.items b.0 c.in-Elf.bytes.items (tally (g.F.Store.faults c.args.store.now) (g.I.Source.faults c.args.input.now) (g.O.Sink.faults c.args.out.now) (g.E.Sink.faults c.args.err.now)) (tally (g.F.Store.faults c.args.store.now) (g.I.Source.faults c.execute.new.input) (g.O.Sink.faults c.execute.new.out) (g.E.Sink.faults c.execute.new.err)) (g.I.Source.left c.args.input.now) w e c.execute.result
+    (λ files t. c.in-Ok.ensures.told files t) (λ files t. c.in-Ok.ensures.kept files t) (rw c.deref.ensures.value at b.1) b.2 (rw c.deref-in-Elf.ensures.value at h)))
+    (c.execute.ensures.executed (g.F.Store.faults c.args.store.now)))
+
+pub returns-in-Refused-clause-performed : goal.returns-in-Refused-clause-performed
+returns-in-Refused-clause-performed g c =
+    came_none (g.O.Sink.taken c.args.out.now) (g.E.Sink.taken c.args.err.now) _ (run_said c.args.name.now (g.F.Store.files c.args.store.now) (g.F.Store.files c.load.new.self) c.args.steps c.in-Ok.file.items c.in-Refused.line _ _ (g.I.Source.left c.args.input.now)
+    (λ files t. c.in-Ok.ensures.told files t) (λ files t. c.in-Ok.ensures.kept files t) (rw c.deref.ensures.value at c.in-Refused.ensures) (record { store = c.in-Ok.ensures.cause; input = refl; out = refl; err = refl }))
+
+pub returns-in-Ok-clause-performed : goal.returns-in-Ok-clause-performed
+returns-in-Ok-clause-performed g c = came_none (g.O.Sink.taken c.args.out.now) (g.E.Sink.taken c.args.err.now) _ (want refl refl (λ files t. c.in-Ok.ensures.kept files t) (record { store = c.in-Ok.ensures.cause; input = refl; out = refl; err = refl }))
+
+pub returns-in-Err-NoMemory-clause-performed : goal.returns-in-Err-NoMemory-clause-performed
+returns-in-Err-NoMemory-clause-performed g c =
+    let k = rw c.in-Err-NoMemory.field-0-is at c.in-Err-NoMemory.ensures.cause in
+    came_none (g.O.Sink.taken c.args.out.now) (g.E.Sink.taken c.args.err.now) _ (want refl refl (λ files t. c.in-Err-NoMemory.ensures.kept files t) (record { store = k; input = refl; out = refl; err = refl }))
+
+pub returns-clause-performed : goal.returns-clause-performed
+returns-clause-performed g c =
+    let k = rw c.in-Err-Failed.field-0-is at c.in-Err-Failed.ensures.cause in
+    came_none (g.O.Sink.taken c.args.out.now) (g.E.Sink.taken c.args.err.now) _ (load_failed k refl refl (λ files t. c.in-Err-Failed.ensures.kept files t))

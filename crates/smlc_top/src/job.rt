@@ -1,0 +1,69 @@
+//! What the program is asked to do, of all that words may ask.
+
+ghost use Rattle.std.specs.Prelude.{List, ℕ, map, string_bytes, IfOk, IfSome, IfNone, ◌≡◌};
+ghost use Rattle.smlc_words.specs.Asks.{asked};
+ghost use Rattle.smlc_top.specs.Job.{IsAsked, Allows, job_of};
+ghost use Rattle.smlc_top.specs.Job.{Job as Wanted};
+
+use smlc_base::NoMemory;
+use smlc_words::{Command, command};
+use std::alloc::Global;
+
+/// How many instructions are done at the most where nothing is said.
+const STEPS: u64 = 1_000_000_000;
+
+/// A job: the names of files are words of the command line.
+#[derive(Debug, Drop)]
+pub enum Job<'a> {
+    /// Compile a file and run it, for so many instructions at the most.
+    Run { file: &'a str, steps: u64 },
+    /// Compile a file, and save what was made under a name.
+    Compile { file: &'a str, target: &'a str },
+    /// Run an ELF file, for so many instructions at the most.
+    Exec { file: &'a str, steps: u64 },
+}
+
+/// The job that the words ask for, if any.
+pub fn find_job<'a>(alloc: Global, words: &'a [String]) -> Result<Option<Job<'a>>, NoMemory>
+    ensures some { IfOk result (λ o. IfSome o (λ j. IsAsked (map string_bytes words.now) (job_of j))) }
+    ensures none { IfOk result (λ o. IfNone o ((wanted : Wanted) → IsAsked (map string_bytes words.now) wanted → ⊥)) }
+{
+    match command(alloc, words) {
+        Ok(Some(command)) => Ok(allowed(command)),
+        Ok(None) => Ok(None),
+        Err(e) => Err(e),
+    }
+}
+
+// The job that a command is, if it is there by now.
+fn allowed<'a>(command: Command<'a>) -> Option<Job<'a>>
+    ensures some { IfSome result (λ j. Allows (asked command.entry) (job_of j)) }
+    ensures none { IfNone result ((wanted : Wanted) → Allows (asked command.entry) wanted → ⊥) }
+{
+    match command {
+        Command::Run {
+            files,
+            arena: None,
+            steps,
+        } => match files.as_slice() {
+            [file] => Some(Job::Run {
+                file,
+                steps: steps.unwrap_or(STEPS),
+            }),
+            _ => None,
+        },
+        Command::Compile {
+            files,
+            out,
+            arena: None,
+        } => match files.as_slice() {
+            [file] => Some(Job::Compile { file, target: out }),
+            _ => None,
+        },
+        Command::Exec { elf, steps } => Some(Job::Exec {
+            file: elf,
+            steps: steps.unwrap_or(STEPS),
+        }),
+        _ => None,
+    }
+}
