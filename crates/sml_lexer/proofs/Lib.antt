@@ -1,0 +1,2 @@
+pub mod CommentScanLemmas
+pub mod PlainScanLemmas

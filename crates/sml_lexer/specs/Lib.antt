@@ -1,0 +1,14 @@
+pub mod Bytes
+pub mod Classes
+pub mod CommentScan
+pub mod Gaps
+pub mod IntegerScan
+pub mod Meanings
+pub mod Numbers
+pub mod Places
+pub mod PlainScan
+pub mod Quoted
+pub mod QuotedScan
+pub mod Reserved
+pub mod Spellings
+pub mod Tokens

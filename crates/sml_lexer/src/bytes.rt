@@ -1,0 +1,109 @@
+//! Classes of bytes, and runs of a class.
+
+ghost use Rattle.std.specs.Prelude.{◌≡◌, ◌≤◌, length, drop, slice_index};
+ghost use Rattle.std.specs.List.{prefix_len};
+ghost use Rattle.sml_lexer.specs.Bytes.{is_letter, is_digit, is_hexadecimal, is_alphanumeric, is_sign, is_space, is_control};
+ghost use Rattle.sml_lexer.specs.Classes.{in_class};
+
+/// A class of bytes that come in runs.
+#[derive(Clone, Copy, PartialEq, Eq, Debug)]
+pub enum ByteClass {
+    Digit,
+    Hexadecimal,
+    Alphanumeric,
+    Sign,
+    Space,
+}
+
+#[tactic(auto, unfolding(crate::specs::Bytes::is_letter))]
+pub fn is_letter(c: u8) -> bool
+    ensures { result ≡ is_letter c }
+{
+    (65 <= c && c <= 90) || (97 <= c && c <= 122)
+}
+
+#[tactic(auto, unfolding(crate::specs::Bytes::is_digit))]
+pub fn is_digit(c: u8) -> bool
+    ensures { result ≡ is_digit c }
+{
+    48 <= c && c <= 57
+}
+
+#[tactic(auto, unfolding(crate::specs::Bytes::is_hexadecimal))]
+fn is_hexadecimal(c: u8) -> bool
+    ensures { result ≡ is_hexadecimal c }
+{
+    (48 <= c && c <= 57) || (65 <= c && c <= 70) || (97 <= c && c <= 102)
+}
+
+#[tactic(auto, unfolding(crate::specs::Bytes::is_alphanumeric))]
+fn is_alphanumeric(c: u8) -> bool
+    ensures { result ≡ is_alphanumeric c }
+{
+    (65 <= c && c <= 90) || (97 <= c && c <= 122) || (48 <= c && c <= 57) || c == 39 || c == 95
+}
+
+#[tactic(auto, unfolding(crate::specs::Bytes::is_sign))]
+pub fn is_sign(c: u8) -> bool
+    ensures { result ≡ is_sign c }
+{
+    c == 33 || c == 37 || c == 38 || c == 36 || c == 35 || c == 43 || c == 45 || c == 47 || c == 58 || c == 60
+        || c == 61 || c == 62 || c == 63 || c == 64 || c == 92 || c == 126 || c == 96 || c == 94 || c == 124 || c == 42
+}
+
+#[tactic(auto, unfolding(crate::specs::Bytes::is_space))]
+pub fn is_space(c: u8) -> bool
+    ensures { result ≡ is_space c }
+{
+    c == 32 || c == 9 || c == 10 || c == 12 || c == 13
+}
+
+#[tactic(auto, unfolding(crate::specs::Bytes::is_control))]
+pub fn is_control(c: u8) -> bool
+    ensures { result ≡ is_control c }
+{
+    c < 32 || c == 127
+}
+
+impl ByteClass {
+    /// Whether the byte is in the class.
+    pub fn contains(self, c: u8) -> bool
+        ensures { result ≡ in_class self c }
+    {
+        match self {
+            ByteClass::Digit => is_digit(c),
+            ByteClass::Hexadecimal => is_hexadecimal(c),
+            ByteClass::Alphanumeric => is_alphanumeric(c),
+            ByteClass::Sign => is_sign(c),
+            ByteClass::Space => is_space(c),
+        }
+    }
+}
+
+/// How many bytes at the front are in the class.
+pub fn run(class: ByteClass, bytes: &[u8]) -> usize
+    ensures value { result ≡ prefix_len (in_class class) bytes.now }
+    ensures bound { result ≤ length bytes.now }
+{
+    for (i, c) in bytes.iter().enumerate() {
+        if !class.contains(*c) {
+            return i;
+        }
+    }
+    bytes.len()
+}
+
+/// The byte at a place, 0 past the end.
+pub fn byte_at(bytes: &[u8], at: usize) -> u8
+    ensures { result ≡ slice_index bytes.now at }
+{
+    if at < bytes.len() { bytes[at] } else { 0 }
+}
+
+/// The bytes from a place on.
+pub fn rest(bytes: &[u8], at: usize) -> &[u8]
+    requires { at ≤ length bytes.now }
+    ensures { result.now ≡ drop at bytes.now }
+{
+    &bytes[at..]
+}

@@ -1,0 +1,11 @@
+//! x
+#![tactic(auto)]
+
+pub mod bytes;
+pub mod comment;
+pub mod integer;
+pub mod plain;
+pub mod quoted;
+pub mod reserved;
+
+pub use reserved::Reserved;
