@@ -4,4 +4,6 @@ pub mod CommentScanLemmas
 pub mod ItemLemmas
 pub mod ItemsFound
 pub mod PlainScanLemmas
+pub mod ReservedLemmas
 pub mod RunLemmas
+pub mod WordLemmas

@@ -9,13 +9,13 @@ pub dots_stop : (fuel : ℕ) (s : List ℕ) → get_or s 0 0 ≢ 46 → dots fue
 dots_stop zero s h = refl
 dots_stop (suc fuel) s h = cond-false _ _ _ (ne_eqb _ _ h)
 
-joined_nothing : (p : AfterDot) (more : ℕ) → p.len ≡ 0 → joined p more ≡ 0
+pub joined_nothing : (p : AfterDot) (more : ℕ) → p.len ≡ 0 → joined p more ≡ 0
 joined_nothing p more h = cond-true _ _ _ (eq-eqb _ _ h)
 
-joined_last : (p : AfterDot) (more : ℕ) → p.len ≢ 0 → p.goes_on ≡ false → joined p more ≡ 1 + p.len
+pub joined_last : (p : AfterDot) (more : ℕ) → p.len ≢ 0 → p.goes_on ≡ false → joined p more ≡ 1 + p.len
 joined_last p more h e = cond-false _ _ _ (ne_eqb _ _ h) ∙ cond-false _ _ _ e
 
-joined_more : (p : AfterDot) (more : ℕ) → p.len ≢ 0 → p.goes_on ≡ true → joined p more ≡ 1 + p.len + more
+pub joined_more : (p : AfterDot) (more : ℕ) → p.len ≢ 0 → p.goes_on ≡ true → joined p more ≡ 1 + p.len + more
 joined_more p more h e = cond-false _ _ _ (ne_eqb _ _ h) ∙ cond-true _ _ _ e
 
 -- what is left at a place
