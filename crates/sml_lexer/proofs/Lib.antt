@@ -1,8 +1,10 @@
 pub mod ByteLemmas
 pub mod CommentLemmas
 pub mod CommentScanLemmas
+pub mod FoundLemmas
 pub mod ItemLemmas
 pub mod ItemsFound
+pub mod NumberLemmas
 pub mod PlainScanLemmas
 pub mod ReservedLemmas
 pub mod RunLemmas

@@ -18,7 +18,7 @@ use Rattle.sml_lexer.proofs.ByteLemmas.{letter_alphanumeric, letter_range, sign_
 use Rattle.sml_lexer.proofs.PlainScanLemmas.{dots_stop, joined_nothing, joined_last, joined_more}
 use Rattle.sml_lexer.proofs.ReservedLemmas.{free_from_none, none_from_free, reserved_found}
 
-some_or_none : {A : Type 0} (o : Option A) → (is_some o ≡ true) ⊎ ((is_some o ≡ false) × (o ≡ None))
+pub some_or_none : {A : Type 0} (o : Option A) → (is_some o ≡ true) ⊎ ((is_some o ≡ false) × (o ≡ None))
 some_or_none None = inr (refl, refl)
 some_or_none (Some x) = inl refl
 
@@ -48,18 +48,18 @@ kept_most s (suc n) m h e = step (cases_Bool (is_some (reserved_of (take (suc n)
     step (inl b) (inr k) ih = let r : kept s (suc n) ≡ kept s n = cond-true _ _ _ b in let q = ih (omega (arith, k)) in omega arith
     step (inr b) k ih = let r : kept s (suc n) ≡ suc n = cond-false _ _ _ b in omega arith
 
-all_alphanumeric : (s : List ℕ) → IsAlphanumeric s → list_all is_alphanumeric s ≡ true
+pub all_alphanumeric : (s : List ℕ) → IsAlphanumeric s → list_all is_alphanumeric s ≡ true
 all_alphanumeric [] h = absurd h
 all_alphanumeric (c ∷ s) h = and_from _ _ (letter_alphanumeric c h.0) h.1
 
 -- a front of at least one alphanumeric byte, where a letter stands
-alphanumeric_front : (s : List ℕ) (n : ℕ) → is_letter (get_or s 0 0) ≡ true → n ≢ 0 → n ≤ prefix_len is_alphanumeric s → IsAlphanumeric (take n s)
+pub alphanumeric_front : (s : List ℕ) (n : ℕ) → is_letter (get_or s 0 0) ≡ true → n ≢ 0 → n ≤ prefix_len is_alphanumeric s → IsAlphanumeric (take n s)
 unfolding is_letter
 alphanumeric_front s zero h k l = absurd (k refl)
 alphanumeric_front [] (suc n) h k l = cc
 alphanumeric_front (c ∷ s) (suc n) h k l = (h, (and_parts _ _ (run_front is_alphanumeric (suc n) (c ∷ s) l)).1)
 
-sign_front : (s : List ℕ) (n : ℕ) → n ≢ 0 → n ≤ prefix_len is_sign s → AreSome is_sign (take n s)
+pub sign_front : (s : List ℕ) (n : ℕ) → n ≢ 0 → n ≤ prefix_len is_sign s → AreSome is_sign (take n s)
 sign_front s zero k l = absurd (k refl)
 sign_front [] (suc n) k l = absurd (omega arith)
 sign_front (c ∷ s) (suc n) k l = run_front is_sign (suc n) (c ∷ s) l
@@ -140,23 +140,23 @@ dots_are (suc fuel) s = go (cases_eq (get_or s 0 0) 46) (dots_are fuel (drop (1 
     go (inr h) d = nothing (dots_stop (suc fuel) s h)
 
 -- and the longest
-letter_first : (t more : List ℕ) → IsAlphanumeric t → is_letter (get_or (t ++ more) 0 0) ≡ true
+pub letter_first : (t more : List ℕ) → IsAlphanumeric t → is_letter (get_or (t ++ more) 0 0) ≡ true
 letter_first [] more h = absurd h
 letter_first (c ∷ t) more h = h.0
 
-sign_first : (t more : List ℕ) → AreSome is_sign t → is_letter (get_or (t ++ more) 0 0) ≡ false
+pub sign_first : (t more : List ℕ) → AreSome is_sign t → is_letter (get_or (t ++ more) 0 0) ≡ false
 sign_first [] more h = absurd h
 sign_first (c ∷ t) more h = sign_not_letter c (and_parts _ _ h).0
 
-all_signs : (t : List ℕ) → AreSome is_sign t → list_all is_sign t ≡ true
+pub all_signs : (t : List ℕ) → AreSome is_sign t → list_all is_sign t ≡ true
 all_signs [] h = absurd h
 all_signs (c ∷ t) h = h
 
-some_alphanumeric : (t : List ℕ) → IsAlphanumeric t → length t ≢ 0
+pub some_alphanumeric : (t : List ℕ) → IsAlphanumeric t → length t ≢ 0
 some_alphanumeric [] h = absurd h
 some_alphanumeric (c ∷ t) h = let ne : length (c ∷ t) ≢ 0 = omega arith in ne
 
-some_signs : (t : List ℕ) → AreSome is_sign t → length t ≢ 0
+pub some_signs : (t : List ℕ) → AreSome is_sign t → length t ≢ 0
 some_signs [] h = absurd h
 some_signs (c ∷ t) h = let ne : length (c ∷ t) ≢ 0 = omega arith in ne
 
@@ -189,7 +189,7 @@ part_symbol t more i =
     let free = ap reserved_of (take_at t more (length t) refl) ∙ none_from_free t i.free in
     record { fits = subst (λ (p : AfterDot). length t ≤ p.len) (sym (cond-false _ _ _ (sign_first t more i.spelled))) (kept_most (t ++ more) _ (length t) enough free); some = some_signs t i.spelled }
 
-dot_stops : is_alphanumeric 46 ≡ false
+pub dot_stops : is_alphanumeric 46 ≡ false
 unfolding is_alphanumeric
 dot_stops = refl
 

@@ -1,5 +1,6 @@
 pub mod Bytes
 pub mod Classes
+pub mod Classified
 pub mod CommentScan
 pub mod Gaps
 pub mod IntegerScan
