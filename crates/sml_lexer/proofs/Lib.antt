@@ -8,4 +8,5 @@ pub mod NumberLemmas
 pub mod PlainScanLemmas
 pub mod ReservedLemmas
 pub mod RunLemmas
+pub mod UnsignedLemmas
 pub mod WordLemmas

@@ -25,15 +25,15 @@ use Rattle.sml_lexer.proofs.WordLemmas.{take_plus}
 use Rattle.sml_lexer.proofs.FoundLemmas.{IsFound, IsMost}
 
 -- some bytes of a class
-all_some : (p : ℕ → Bool) (t : List ℕ) → AreSome p t → list_all p t ≡ true
+pub all_some : (p : ℕ → Bool) (t : List ℕ) → AreSome p t → list_all p t ≡ true
 all_some p [] h = absurd h
 all_some p (c ∷ t) h = h
 
-some_size : (p : ℕ → Bool) (t : List ℕ) → AreSome p t → 0 < length t
+pub some_size : (p : ℕ → Bool) (t : List ℕ) → AreSome p t → 0 < length t
 some_size p [] h = absurd h
 some_size p (c ∷ t) h = omega arith
 
-some_run : (p : ℕ → Bool) (s : List ℕ) → prefix_len p s ≢ 0 → AreSome p (take (prefix_len p s) s)
+pub some_run : (p : ℕ → Bool) (s : List ℕ) → prefix_len p s ≢ 0 → AreSome p (take (prefix_len p s) s)
 some_run p s h = go (prefix_len p s) refl s refl
   where
     go : (n : ℕ) → prefix_len p s ≡ n → (r : List ℕ) → s ≡ r → AreSome p (take n r)
@@ -41,7 +41,7 @@ some_run p s h = go (prefix_len p s) refl s refl
     go (suc n) e [] q = absurd (h (ap (prefix_len p) q))
     go (suc n) e (c ∷ r) q = subst (λ x. list_all p x ≡ true) (ap (λ x. take (prefix_len p s) x) q ∙ ap (λ k. take k (c ∷ r)) e) (run_take p s)
 
-run_least : (p : ℕ → Bool) (t more : List ℕ) → AreSome p t → length t ≤ prefix_len p (t ++ more)
+pub run_least : (p : ℕ → Bool) (t more : List ℕ) → AreSome p t → length t ≤ prefix_len p (t ++ more)
 run_least p t more h = let e = run-append p t more (all_some p t h) in omega (arith, e)
 
 one_behind : (n : ℕ) → n ≢ 0 → behind_one n ≡ n + 1
@@ -49,11 +49,6 @@ one_behind n h = cond-true _ _ _ (lt-ltb 0 n (omega (arith, h)))
 
 none_behind : (n : ℕ) → n ≡ 0 → behind_one n ≡ 0
 none_behind n h = cond-false _ _ _ (le-ltb 0 n (omega arith))
-
--- the length of what follows one byte, which is a scan of the rest
-data Behind (s : List ℕ) (c : ℕ) (scan n : ℕ) : Type 0 where
-  nothing : n ≡ 0 → Behind s c scan n
-  some : (r : List ℕ) → s ≡ c ∷ r → scan ≢ 0 → n ≡ scan + 1 → Behind s c scan n
 
 at_least_one : (c : ℕ) (s : List ℕ) → leb 1 (length (c ∷ s)) ≡ true
 at_least_one c s = le-leb 1 (length (c ∷ s)) (omega arith)
@@ -117,7 +112,7 @@ front_cons P Q c s n make (some z b p) =
     let k : suc n ≡ behind_one n = omega (arith, e) in
     some (omega (arith, e)) (omega (arith, e)) (subst Q (ap (λ m. take m (c ∷ s)) k) (make _ p))
 
-digits_front : (s : List ℕ) → Front (AreSome is_digit) s (prefix_len is_digit s)
+pub digits_front : (s : List ℕ) → Front (AreSome is_digit) s (prefix_len is_digit s)
 digits_front s = go (cases_eq (prefix_len is_digit s) 0)
   where
     go : (prefix_len is_digit s ≡ 0) ⊎ (prefix_len is_digit s ≢ 0) → Front (AreSome is_digit) s (prefix_len is_digit s)
@@ -159,7 +154,7 @@ pub data RealTail : List ℕ → Type 0 where
   exponent : (e : List ℕ) → IsExponent e → RealTail e
   both : (t e : List ℕ) → AreSome is_digit t → IsExponent e → RealTail (46 ∷ t ++ e)
 
-real_front : (s : List ℕ) → Front RealTail s (real_len s)
+pub real_front : (s : List ℕ) → Front RealTail s (real_len s)
 unfolding real_len IsFraction
 real_front s = go (fraction_front s) (exponent_front (drop (fraction_len s) s))
   where
