@@ -5,6 +5,8 @@ pub mod FoundLemmas
 pub mod ItemLemmas
 pub mod ItemsFound
 pub mod NumberLemmas
+pub mod PlainLemmas
+pub mod PlainMost
 pub mod PlainScanLemmas
 pub mod ReservedLemmas
 pub mod RunLemmas
