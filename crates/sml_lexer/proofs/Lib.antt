@@ -8,6 +8,7 @@ pub mod NumberLemmas
 pub mod PlainLemmas
 pub mod PlainMost
 pub mod PlainScanLemmas
+pub mod QuotedReadLemmas
 pub mod ReservedLemmas
 pub mod RunLemmas
 pub mod UnsignedLemmas

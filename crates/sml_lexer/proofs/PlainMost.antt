@@ -155,3 +155,64 @@ reserved_word_most w t e (alphabetic s h) more =
 reserved_word_most w t e (signs s h) more = signs_most t more _ h (subst (λ x. IsMost x (meaning.word w) (sign_at (x ++ more))) e (reserved_sign_most w more (subst (AreSome is_sign) (sym e) h)))
 reserved_word_most w t e (point c h) more = point_most w c more e h
 reserved_word_most w t e dots more = dots_most w more e
+
+-- constants
+unsigned_class_most : (t more : List ℕ) (c : Class) (m : Meaning) → IsUnsigned false t c → meaning_of c t ≡ m → is_digit (get_or (t ++ more) 0 0) ≡ true → Most t m more
+unsigned_class_most t more c m u e d =
+    let f = unsigned_most false t c u more in
+    at_least t m more _ (at_digit (t ++ more) d) (record { bound = f.bound; same = λ k. ap (λ x. meaning_of x t) (f.same k) ∙ e })
+
+negative_class_most : (t more : List ℕ) (c : Class) (m : Meaning) → IsUnsigned true t c → meaning_of c (126 ∷ t) ≡ m → is_digit (get_or (t ++ more) 0 0) ≡ true → Most (126 ∷ t) m more
+unfolding negative_at
+negative_class_most t more c m u e d =
+    let f = unsigned_most true t c u more in
+    let b = f.bound in
+    at_least (126 ∷ t) m more _ (at_tilde (126 ∷ t ++ more) refl d) (record { bound = omega (arith, b); same = λ k. ap (λ x. meaning_of x (126 ∷ t)) (f.same (omega arith)) ∙ e })
+
+digit_head_more : (t more : List ℕ) → AreSome is_digit t → is_digit (get_or (t ++ more) 0 0) ≡ true
+digit_head_more [] more h = absurd h
+digit_head_more (c ∷ t) more h = (and_parts _ _ h).0
+
+digit_head_tail : (t r more : List ℕ) → AreSome is_digit t → is_digit (get_or ((t ++ r) ++ more) 0 0) ≡ true
+digit_head_tail [] r more h = absurd h
+digit_head_tail (c ∷ t) r more h = (and_parts _ _ h).0
+
+zero_digit : is_digit 48 ≡ true
+unfolding is_digit
+zero_digit = refl
+
+real_class_most : (d r more : List ℕ) → IsDecimal d → RealTail r → Most (d ++ r) meaning.real more
+real_class_most d r more (spellings.IsDecimal.plain s h) q = unsigned_class_most (d ++ r) more Real _ (real false d r h q) refl (digit_head_tail d r more h)
+real_class_most d r more (spellings.IsDecimal.negative s h) q = negative_class_most (s ++ r) more Real _ (real true s r h q) refl (digit_head_tail s r more h)
+
+-- Where a spelling stands that is no constant in quotes, the scan answers one that is no shorter, with the same meaning if it isn't longer.
+pub plain_most : (t : List ℕ) (m : Meaning) → Spells t m → (more : List ℕ) → Quoted t ⊎ Most t m more
+plain_most t m (spellings.Spells.reserved w) more = inr (reserved_word_most w t refl (shape w) more)
+plain_most t m (spellings.Spells.identifier s i) more = inr (at_least t m more _ (at_letter (t ++ more) (letter_first t more i.spelled)) (identifier_most t more i))
+plain_most t m (spellings.Spells.symbol s i) more = inr (signs_most t more m i.spelled (symbol_most t more i))
+plain_most t m (spellings.Spells.long s l) more = inr (of_long t l)
+  where
+    letter_long : (q s more : List ℕ) → spellings.IsAlphanumeric q → is_letter (get_or ((q ++ 46 ∷ s) ++ more) 0 0) ≡ true
+    letter_long [] s more h = absurd h
+    letter_long (c ∷ q) s more h = h.0
+    of_long : (t : List ℕ) → IsLong t → Most t (meaning.long t) more
+    of_long t (spellings.IsLong.long q s i a) = at_least t _ more _ (at_letter (t ++ more) (letter_long q s more i.spelled)) (long_most q s more i a)
+plain_most t m (spellings.Spells.type_variable s h) more = inr (at_least t m more _ (at_prime (t ++ more) (first t h)) (variable_most t more h))
+  where
+    first : (t : List ℕ) → IsTypeVariable t → get_or (t ++ more) 0 0 ≡ 39
+    first [] h = absurd h
+    first (c ∷ t) h = h.0
+plain_most t m (spellings.Spells.decimal s h) more = inr (unsigned_class_most t more Int m (digits false t h) (ap (λ z. meaning.integer z) (integer_decimal t h)) (digit_head_more t more h))
+plain_most t m (spellings.Spells.negative_decimal s h) more =
+    inr (negative_class_most s more Int m (digits true s h) (ap (λ z. meaning.integer z) (integer_negative s ∙ ap (λ n. neg_ℤ (pos n)) (magnitude_decimal s h))) (digit_head_more s more h))
+plain_most t m (spellings.Spells.hexadecimal s h) more = inr (unsigned_class_most t more Int m (hexadecimal false s h) (ap (λ z. meaning.integer z) (integer_hexadecimal s)) zero_digit)
+plain_most t m (spellings.Spells.negative_hexadecimal s h) more =
+    inr (negative_class_most (48 ∷ 120 ∷ s) more Int m (hexadecimal true s h) (ap (λ z. meaning.integer z) (integer_negative (48 ∷ 120 ∷ s) ∙ ap (λ n. neg_ℤ (pos n)) (magnitude_hexadecimal s))) zero_digit)
+plain_most t m (spellings.Spells.decimal_word s h) more = inr (unsigned_class_most t more WordLit m (word s h) refl zero_digit)
+plain_most t m (spellings.Spells.hexadecimal_word s h) more = inr (unsigned_class_most t more WordLit m (hexadecimal_word s h) refl zero_digit)
+plain_most t m (spellings.Spells.fraction s r d h) more = inr (real_class_most s (46 ∷ r) more d (fraction r h))
+plain_most t m (spellings.Spells.exponent s e d h) more = inr (real_class_most s e more d (exponent e h))
+plain_most t m (spellings.Spells.fraction_exponent s r e d h k) more =
+    inr (subst (λ x. Most x meaning.real more) (sym (append_assoc s (46 ∷ r) e)) (real_class_most s (46 ∷ r ++ e) more d (both r e h k)))
+plain_most t m (spellings.Spells.text s codes p l) more = inl (string (s ++ 34 ∷ []))
+plain_most t m (spellings.Spells.character s n p l) more = inl (character (s ++ 34 ∷ []))

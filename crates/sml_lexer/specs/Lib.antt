@@ -9,6 +9,7 @@ pub mod Numbers
 pub mod Places
 pub mod PlainScan
 pub mod Quoted
+pub mod QuotedRead
 pub mod QuotedScan
 pub mod Reserved
 pub mod Spellings

@@ -1,11 +1,14 @@
 //! String and character constants.
 
-ghost use Rattle.std.specs.Prelude.{◌≡◌, ◌≤◌, ◌<◌, ◌+◌, ◌^◌, length};
+ghost use Rattle.std.specs.Prelude.{◌≡◌, ◌≤◌, ◌<◌, ◌+◌, ◌^◌, ◌||◌, length, drop, IfOk};
 ghost use Rattle.sml_lexer.specs.Quoted.{letter_escape};
 ghost use Rattle.sml_lexer.specs.QuotedScan.{caret_at, digits_at, gap_at, escape_at, item_at};
+ghost use Rattle.sml_lexer.specs.QuotedRead.{low_byte, first_of, IsRead, Ends};
 
 use crate::bytes::{ByteClass, is_control, is_digit, is_space, rest, run};
 use crate::integer::number;
+use smlc_base::NoMemory;
+use std::alloc::Global;
 
 /// What stands at a byte behind the opening quote.
 #[derive(Clone, Copy, PartialEq, Eq, Debug)]
@@ -137,5 +140,80 @@ fn item_at(bytes: &[u8]) -> Item
         escape_at(rest(bytes, 1))
     } else {
         Item::Char { code: u64::from(c), len: 1 }
+    }
+}
+
+/// How a constant ends.
+#[derive(Clone, Copy, PartialEq, Eq, Debug)]
+pub enum Ending {
+    Closed,
+    Open,
+    Unknown,
+}
+
+/// What was read behind the opening quote: `len` bytes up to its end, and their characters, with 0 for one out of range.
+#[derive(Debug, Drop)]
+pub struct Quoted {
+    pub len: usize,
+    pub value: Vec<u8>,
+    /// Whether a character is out of range.
+    pub wide: bool,
+    /// Where the first control byte stands.
+    pub stray: Option<usize>,
+    pub ending: Ending,
+}
+
+fn low_byte(code: u64) -> u8
+    ensures { result ≡ low_byte code }
+{
+    if code > 255 { 0 } else { code as u8 }
+}
+
+fn either(first: bool, second: bool) -> bool
+    ensures { result ≡ (first || second) }
+{
+    first || second
+}
+
+fn first_of(earlier: Option<usize>, at: usize) -> Option<usize>
+    ensures { result ≡ first_of earlier at }
+{
+    match earlier {
+        Some(place) => Some(place),
+        None => Some(at),
+    }
+}
+
+/// Reads a constant behind its opening quote.
+pub fn read_quoted(alloc: Global, bytes: &[u8]) -> Result<Quoted, NoMemory>
+    ensures read { IfOk result (λ q. IsRead bytes.now q.len q.value.items q.wide q.stray) }
+    ensures ends { IfOk result (λ q. Ends q.ending (drop q.len bytes.now)) }
+{
+    let mut value = Vec::new(alloc);
+    let mut wide = false;
+    let mut stray = None;
+    let mut at = 0usize;
+    'parts: loop {
+        match item_at(rest(bytes, at)) {
+            Item::Char { code, len } => {
+                value.push(low_byte(code))?;
+                wide = either(wide, code > 255);
+                at += len;
+            }
+            Item::Gap { len } => at += len,
+            Item::Control => {
+                stray = first_of(stray, at);
+                at += 1;
+            }
+            Item::Close => {
+                return Ok(Quoted { len: at, value, wide, stray, ending: Ending::Closed });
+            }
+            Item::Open => {
+                return Ok(Quoted { len: at, value, wide, stray, ending: Ending::Open });
+            }
+            Item::Unknown => {
+                return Ok(Quoted { len: at, value, wide, stray, ending: Ending::Unknown });
+            }
+        }
     }
 }
