@@ -1,6 +1,7 @@
 pub mod ByteLemmas
 pub mod CommentLemmas
 pub mod CommentScanLemmas
+pub mod ConstantFaults
 pub mod FoundLemmas
 pub mod ItemLemmas
 pub mod ItemsFound
@@ -11,5 +12,6 @@ pub mod PlainScanLemmas
 pub mod QuotedReadLemmas
 pub mod ReservedLemmas
 pub mod RunLemmas
+pub mod StageLemmas
 pub mod UnsignedLemmas
 pub mod WordLemmas

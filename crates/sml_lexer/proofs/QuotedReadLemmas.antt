@@ -26,12 +26,12 @@ parts-append s ps (quoted.AreParts.part u v us vs p a) t qs b =
 pub one_part : (s : List ℕ) (ps : List Part) → IsPart s ps → AreParts s ps
 one_part s ps p = subst (AreParts s) (append-nil ps) (subst (λ x. AreParts x (ps ++ [])) (append-nil s) (quoted.AreParts.part s [] ps [] p quoted.AreParts.nothing))
 
-values-append : (ps qs : List Part) → values (ps ++ qs) ≡ values ps ++ values qs
+pub values-append : (ps qs : List Part) → values (ps ++ qs) ≡ values ps ++ values qs
 values-append [] qs = refl
 values-append (character n ∷ ps) qs = ap (λ x. low_byte n ∷ x) (values-append ps qs)
 values-append (stray ∷ ps) qs = values-append ps qs
 
-wide-append : (ps qs : List Part) → has_wide (ps ++ qs) ≡ (has_wide ps || has_wide qs)
+pub wide-append : (ps qs : List Part) → has_wide (ps ++ qs) ≡ (has_wide ps || has_wide qs)
 wide-append [] qs = refl
 wide-append (character n ∷ ps) qs = step (ltb 255 n) (wide-append ps qs)
   where
@@ -40,7 +40,7 @@ wide-append (character n ∷ ps) qs = step (ltb 255 n) (wide-append ps qs)
     step false e = e
 wide-append (stray ∷ ps) qs = wide-append ps qs
 
-stray-append : (ps qs : List Part) → has_stray (ps ++ qs) ≡ (has_stray ps || has_stray qs)
+pub stray-append : (ps qs : List Part) → has_stray (ps ++ qs) ≡ (has_stray ps || has_stray qs)
 stray-append [] qs = refl
 stray-append (character n ∷ ps) qs = stray-append ps qs
 stray-append (stray ∷ ps) qs = refl

@@ -13,4 +13,5 @@ pub mod QuotedRead
 pub mod QuotedScan
 pub mod Reserved
 pub mod Spellings
+pub mod Steps
 pub mod Tokens

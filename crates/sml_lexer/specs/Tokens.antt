@@ -1,5 +1,7 @@
 -- The tokens of a file, and where they fail.
 use Rattle.std.specs.Prelude.{◌≡◌, ◌≢◌, ℕ, ◌≤◌, ◌<◌, ℤ, true, false, List, [], ◌∷◌, ◌++◌, length, ◌⊎◌}
+use Rattle.sml_lexer.specs.declared.step.Trouble.{Trouble}
+use Rattle.sml_lexer.specs.declared.step.Trouble.TheVariants.{BadToken, Unclosed, LiteralRange}
 use Rattle.sml_lexer.specs.Bytes.{is_control, is_space}
 use Rattle.sml_lexer.specs.Gaps.{IsGap, IsComment}
 use Rattle.sml_lexer.specs.Meanings.{Meaning, IsInRange}
@@ -52,12 +54,6 @@ pub data Behind (P : List ℕ → List ℕ → Type 0) : List ℕ → List ℕ �
 abbrev pub AreTokens : List ℕ → List Lexeme → Type 0
 AreTokens file ts = Behind (λ before after. after ≡ []) [] file ts
 
--- why a place has no token
-pub data Trouble : Type 0 where
-  bad_token : Trouble
-  unclosed : Trouble
-  literal_range : Trouble
-
 -- what opens a constant in quotes
 pub data Opening : List ℕ → Type 0 where
   string : Opening (34 ∷ [])
@@ -67,21 +63,21 @@ pub data Opening : List ℕ → Type 0 where
 pub data FailsAt : List ℕ → List ℕ → Trouble → Type 0 where
   -- a byte begins no gap and no token, and opens no constant
   stranger : (c : ℕ) (s : List ℕ) → ((t more : List ℕ) → IsGap t → t ++ more ≡ c ∷ s → ⊥) → ((t more : List ℕ) (m : Meaning) → Spells t m → t ++ more ≡ c ∷ s → ⊥) → c ≢ 34
-    → FailsAt (c ∷ s) [] bad_token
+    → FailsAt (c ∷ s) [] BadToken
   -- a comment that nothing closes
-  open_comment : (s : List ℕ) → ((t more : List ℕ) → IsComment t → t ++ more ≡ s → ⊥) → FailsAt (40 ∷ 42 ∷ s) [] unclosed
+  open_comment : (s : List ℕ) → ((t more : List ℕ) → IsComment t → t ++ more ≡ s → ⊥) → FailsAt (40 ∷ 42 ∷ s) [] Unclosed
   -- an integer constant out of its range
-  wide_integer : (s rest : List ℕ) (z : ℤ) → StandsAs s rest (meaning.integer z) → ¬ IsInRange z → FailsAt (s ++ rest) [] literal_range
+  wide_integer : (s rest : List ℕ) (z : ℤ) → StandsAs s rest (meaning.integer z) → ¬ IsInRange z → FailsAt (s ++ rest) [] LiteralRange
   -- a control byte in a constant
-  control : (o s : List ℕ) (c : ℕ) (rest : List ℕ) (ps : List Part) → Opening o → AreParts s ps → is_control c ≡ true → c ≢ 10 → FailsAt (o ++ s ++ c ∷ rest) (o ++ s) bad_token
+  control : (o s : List ℕ) (c : ℕ) (rest : List ℕ) (ps : List Part) → Opening o → AreParts s ps → is_control c ≡ true → c ≢ 10 → FailsAt (o ++ s ++ c ∷ rest) (o ++ s) BadToken
   -- an unknown escape in a constant
-  unknown : (o s rest : List ℕ) (ps : List Part) → Opening o → AreParts s ps → IsUnknown rest → FailsAt (o ++ s ++ rest) [] bad_token
+  unknown : (o s rest : List ℕ) (ps : List Part) → Opening o → AreParts s ps → IsUnknown rest → FailsAt (o ++ s ++ rest) [] BadToken
   -- a closed character constant that has not one character
-  count : (s rest : List ℕ) (ps : List Part) → AreParts s ps → character_count ps ≢ 1 → FailsAt (35 ∷ 34 ∷ s ++ 34 ∷ rest) [] bad_token
+  count : (s rest : List ℕ) (ps : List Part) → AreParts s ps → character_count ps ≢ 1 → FailsAt (35 ∷ 34 ∷ s ++ 34 ∷ rest) [] BadToken
   -- a constant that nothing closes
-  open_constant : (o s rest : List ℕ) (ps : List Part) → Opening o → AreParts s ps → IsOpen rest → FailsAt (o ++ s ++ rest) [] unclosed
+  open_constant : (o s rest : List ℕ) (ps : List Part) → Opening o → AreParts s ps → IsOpen rest → FailsAt (o ++ s ++ rest) [] Unclosed
   -- an escape out of its range
-  wide_escape : (o s rest : List ℕ) (ps : List Part) → Opening o → AreParts s ps → has_wide ps ≡ true → FailsAt (o ++ s ++ rest) [] literal_range
+  wide_escape : (o s rest : List ℕ) (ps : List Part) → Opening o → AreParts s ps → has_wide ps ≡ true → FailsAt (o ++ s ++ rest) [] LiteralRange
 
 -- A fault of a file lies behind the bytes `at` of it.
 pub record Fault : Type 0 where
@@ -94,9 +90,9 @@ pub data Fails (file : List ℕ) : Fault → Type 0 where
 
 -- the number of its refusal
 abbrev pub number_of : Trouble → ℕ
-number_of bad_token = 1
-number_of unclosed = 2
-number_of literal_range = 3
+number_of BadToken = 1
+number_of Unclosed = 2
+number_of LiteralRange = 3
 
 -- one fault comes before another: at an earlier place, or with a number that isn't greater at the same place
 abbrev pub Precedes : Fault → Fault → Type 0

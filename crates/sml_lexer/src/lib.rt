@@ -7,5 +7,6 @@ pub mod integer;
 pub mod plain;
 pub mod quoted;
 pub mod reserved;
+pub mod step;
 
 pub use reserved::Reserved;
