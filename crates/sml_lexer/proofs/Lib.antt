@@ -2,6 +2,7 @@ pub mod ByteLemmas
 pub mod CommentLemmas
 pub mod CommentScanLemmas
 pub mod ConstantFaults
+pub mod ConstantSteps
 pub mod FoundLemmas
 pub mod ItemLemmas
 pub mod ItemsFound

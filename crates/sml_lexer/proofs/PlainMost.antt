@@ -13,6 +13,7 @@ use Rattle.sml_lexer.specs.Classified.{meaning_of}
 use Rattle.sml_lexer.specs.Meanings.{Meaning}
 use Rattle.sml_lexer.specs.Meanings as meaning
 use Rattle.sml_lexer.specs.Numbers.{AreSome, number_of}
+use Rattle.sml_lexer.specs.Quoted.{AreParts, characters}
 use Rattle.sml_lexer.specs.Reserved.{spelling, reserved_of}
 use Rattle.sml_lexer.specs.Spellings.{Spells, IsDecimal, IsExponent, IsSymbol, IsTypeVariable, IsLong}
 use Rattle.sml_lexer.specs.Spellings as spellings
@@ -97,9 +98,9 @@ pub record Most (t : List ℕ) (m : Meaning) (more : List ℕ) : Type 0 where
   pub most : IsMost t m answer
 
 -- a constant in quotes
-pub data Quoted : List ℕ → Type 0 where
-  string : (s : List ℕ) → Quoted (34 ∷ s)
-  character : (s : List ℕ) → Quoted (35 ∷ 34 ∷ s)
+pub data Quoted : List ℕ → Meaning → Type 0 where
+  string : (s codes : List ℕ) → AreParts s (characters codes) → Quoted (34 ∷ s ++ 34 ∷ []) (meaning.text codes)
+  character : (s : List ℕ) (n : ℕ) → AreParts s (characters (n ∷ [])) → Quoted (35 ∷ 34 ∷ s ++ 34 ∷ []) (meaning.character n)
 
 at_least : (t : List ℕ) (m : Meaning) (more : List ℕ) (f : Found) → plain_at (t ++ more) ≡ Some f → IsMost t m f → Most t m more
 at_least t m more f e h = record { answer = f; is = e; most = h }
@@ -186,7 +187,7 @@ real_class_most d r more (spellings.IsDecimal.plain s h) q = unsigned_class_most
 real_class_most d r more (spellings.IsDecimal.negative s h) q = negative_class_most (s ++ r) more Real _ (real true s r h q) refl (digit_head_tail s r more h)
 
 -- Where a spelling stands that is no constant in quotes, the scan answers one that is no shorter, with the same meaning if it isn't longer.
-pub plain_most : (t : List ℕ) (m : Meaning) → Spells t m → (more : List ℕ) → Quoted t ⊎ Most t m more
+pub plain_most : (t : List ℕ) (m : Meaning) → Spells t m → (more : List ℕ) → Quoted t m ⊎ Most t m more
 plain_most t m (spellings.Spells.reserved w) more = inr (reserved_word_most w t refl (shape w) more)
 plain_most t m (spellings.Spells.identifier s i) more = inr (at_least t m more _ (at_letter (t ++ more) (letter_first t more i.spelled)) (identifier_most t more i))
 plain_most t m (spellings.Spells.symbol s i) more = inr (signs_most t more m i.spelled (symbol_most t more i))
@@ -214,5 +215,5 @@ plain_most t m (spellings.Spells.fraction s r d h) more = inr (real_class_most s
 plain_most t m (spellings.Spells.exponent s e d h) more = inr (real_class_most s e more d (exponent e h))
 plain_most t m (spellings.Spells.fraction_exponent s r e d h k) more =
     inr (subst (λ x. Most x meaning.real more) (sym (append_assoc s (46 ∷ r) e)) (real_class_most s (46 ∷ r ++ e) more d (both r e h k)))
-plain_most t m (spellings.Spells.text s codes p l) more = inl (string (s ++ 34 ∷ []))
-plain_most t m (spellings.Spells.character s n p l) more = inl (character (s ++ 34 ∷ []))
+plain_most t m (spellings.Spells.text s codes p l) more = inl (string s codes p)
+plain_most t m (spellings.Spells.character s n p l) more = inl (character s n p)

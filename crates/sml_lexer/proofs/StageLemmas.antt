@@ -17,7 +17,7 @@ use Rattle.sml_lexer.proofs.ItemsFound.{open_is, unknown_is}
 use Rattle.sml_lexer.proofs.QuotedReadLemmas.{parts-append, one_part, wide-append, stray-append}
 
 -- one part stands at a place
-part_unique : (s t : List ℕ) (ps qs : List Part) → IsPart s ps → IsPart t qs → (x y : List ℕ) → s ++ x ≡ t ++ y → (s ≡ t) × (ps ≡ qs) × (x ≡ y)
+pub part_unique : (s t : List ℕ) (ps qs : List Part) → IsPart s ps → IsPart t qs → (x y : List ℕ) → s ++ x ≡ t ++ y → (s ≡ t) × (ps ≡ qs) × (x ≡ y)
 part_unique s t ps qs p q x y e =
     let a = part_is s ps p x in
     let b = part_is t qs q y in
