@@ -33,13 +33,13 @@ opening_some : (o : List ℕ) (b : Bool) → Which o b → 0 < length o
 opening_some o b quote = omega arith
 opening_some o b hash = omega arith
 
-least_number : (why : Trouble) → 1 ≤ number_of why
+pub least_number : (why : Trouble) → 1 ≤ number_of why
 least_number BadToken = omega arith
 least_number Unclosed = omega arith
 least_number LiteralRange = omega arith
 
 -- a fault comes at a place or behind it
-at_or_behind : (n : ℕ) (k : List ℕ) (why : Trouble) → n ≤ number_of why → (0 < length k) ⊎ ((0 ≡ length k) × (n ≤ number_of why))
+pub at_or_behind : (n : ℕ) (k : List ℕ) (why : Trouble) → n ≤ number_of why → (0 < length k) ⊎ ((0 ≡ length k) × (n ≤ number_of why))
 at_or_behind n [] why h = inr (refl, h)
 at_or_behind n (c ∷ k) why h = inl (omega arith)
 

@@ -3,10 +3,12 @@ pub mod CommentLemmas
 pub mod CommentScanLemmas
 pub mod ConstantFaults
 pub mod ConstantSteps
+pub mod ConstantTokens
 pub mod FoundLemmas
 pub mod ItemLemmas
 pub mod ItemsFound
 pub mod NumberLemmas
+pub mod PlaceSteps
 pub mod PlainLemmas
 pub mod PlainMost
 pub mod PlainScanLemmas
