@@ -209,7 +209,7 @@ not_true false h = refl
 
 module _ (o : List ℕ) (b : Bool) (which : Which o b) (rest s : List ℕ) (ps : List Part) (e : Ending) (more : List ℕ) (w : IsWhole rest s ps e more)
     (value : List ℕ) (of_values : values ps ≡ value) (is_wide : Bool) (of_wide : has_wide ps ≡ is_wide) (strayed : Option ℕ) (of_stray : FirstStray s ps strayed) where
-  counted : length value ≡ character_count ps
+  pub counted : length value ≡ character_count ps
   counted = ap length (sym of_values) ∙ length-values ps
 
   -- what `closed_fault` answers is right

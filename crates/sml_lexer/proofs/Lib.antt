@@ -16,5 +16,6 @@ pub mod QuotedReadLemmas
 pub mod ReservedLemmas
 pub mod RunLemmas
 pub mod StageLemmas
+pub mod StepLemmas
 pub mod UnsignedLemmas
 pub mod WordLemmas

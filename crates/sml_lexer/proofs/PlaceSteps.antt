@@ -16,22 +16,13 @@ use Rattle.sml_lexer.specs.Meanings as meaning
 use Rattle.sml_lexer.specs.PlainScan.{plain_at}
 use Rattle.sml_lexer.specs.Spellings.{Spells}
 use Rattle.sml_lexer.specs.Spellings as spellings
-use Rattle.sml_lexer.specs.Steps.{IsFirstAt, IsTokenAt, IsGapAt}
+use Rattle.sml_lexer.specs.Steps.{IsFirstAt, IsTokenAt, IsGapAt, OpensNone, NoComment}
 use Rattle.sml_lexer.specs.Tokens.{Opening, FailsAt, StandsAs, IsAllowed, IsLongest, OpensMore, number_of}
 use Rattle.sml_lexer.specs.Tokens as tokens
 use Rattle.sml_lexer.proofs.CommentLemmas.{comment_found, comment_is}
 use Rattle.sml_lexer.proofs.FoundLemmas.{IsFound, IsMost}
 use Rattle.sml_lexer.proofs.PlainMost.{Quoted, string, character, Most, plain_found, plain_most}
 use Rattle.sml_lexer.proofs.ConstantSteps.{at_or_behind, least_number}
-
--- no quote opens a constant here
-pub record OpensNone (bytes : List ℕ) : Type 0 where
-  pub no_quote : get_or bytes 0 0 ≢ 34
-  pub no_hash : get_or bytes 0 0 ≡ 35 → get_or bytes 1 0 ≢ 34
-
--- no comment opens here
-abbrev pub NoComment : List ℕ → Type 0
-NoComment bytes = get_or bytes 0 0 ≡ 40 → get_or bytes 1 0 ≢ 42
 
 no_opening : (bytes p x : List ℕ) → OpensNone bytes → Opening p → p ++ x ≡ bytes → ⊥
 no_opening bytes p x n tokens.Opening.string e = n.no_quote (ap (λ (y : List ℕ). get_or y 0 0) (sym e))

@@ -1,5 +1,5 @@
 -- What stands at a place of a file.
-use Rattle.std.specs.Prelude.{◌≡◌, ℕ, ◌+◌, ◌≤◌, ◌<◌, Bool, true, false, not, ◌&&◌, ◌==◌, List, length, take, drop, Option, Some, None, if◌then◌else◌, ◌⊎◌}
+use Rattle.std.specs.Prelude.{◌≡◌, ◌≢◌, slice_index, ℕ, ◌+◌, ◌≤◌, ◌<◌, Bool, true, false, not, ◌&&◌, ◌==◌, List, length, take, drop, Option, Some, None, if◌then◌else◌, ◌⊎◌}
 use Rattle.sml_lexer.specs.declared.plain.Class.{Class}
 use Rattle.sml_lexer.specs.declared.quoted.Ending.{Ending}
 use Rattle.sml_lexer.specs.declared.quoted.Ending.TheVariants as ending
@@ -56,3 +56,12 @@ abbrev pub fault_of : Ending → Bool → ℕ → Bool → Option ℕ → ℕ �
 fault_of ending.Unknown is_char count wide stray opening = Some (record { back = 0; trouble = BadToken })
 fault_of ending.Open is_char count wide stray opening = Some (record { back = 0; trouble = Unclosed })
 fault_of ending.Closed is_char count wide stray opening = closed_fault (is_char && not (count == 1)) wide stray opening
+
+-- no quote opens a constant here
+pub record OpensNone (bytes : List ℕ) : Type 0 where
+  pub no_quote : slice_index bytes 0 ≢ 34
+  pub no_hash : slice_index bytes 0 ≡ 35 → slice_index bytes 1 ≢ 34
+
+-- no comment opens here
+abbrev pub NoComment : List ℕ → Type 0
+NoComment bytes = slice_index bytes 0 ≡ 40 → slice_index bytes 1 ≢ 42

@@ -1,11 +1,18 @@
 //! What stands at a place of a file: a gap, a token or a fault.
 
-ghost use Rattle.std.specs.Prelude.{◌≡◌, ◌≤◌, ◌<◌, ◌^◌};
+ghost use Rattle.std.specs.Prelude.{◌≡◌, ◌≢◌, ◌≤◌, ◌<◌, ◌^◌, length, slice_index, IfOk, false};
 ghost use Rattle.std.specs.Option.{ForSome};
-ghost use Rattle.sml_lexer.specs.Steps.{fault_of};
+ghost use Rattle.sml_lexer.specs.Bytes.{is_space};
+ghost use Rattle.sml_lexer.specs.Steps.{NoComment, OpensNone};
+ghost use Rattle.sml_lexer.specs.Steps.{IsStep, fault_of};
 
-use crate::plain::Class;
-use crate::quoted::Ending;
+use crate::bytes::{byte_at, is_space, rest};
+use crate::comment::comment_len;
+use crate::integer::integer;
+use crate::plain::{Class, plain_at};
+use crate::quoted::{Ending, Quoted, read_quoted};
+use smlc_base::NoMemory;
+use std::alloc::Global;
 
 /// Why a place has no token.
 #[derive(Clone, Copy, PartialEq, Eq, Debug)]
@@ -64,3 +71,80 @@ fn fault_of(ending: Ending, is_char: bool, count: usize, wide: bool, stray: Opti
     }
 }
 
+
+/// At a quote.
+fn string_step(alloc: Global, bytes: &[u8]) -> Result<Step, NoMemory>
+    requires { slice_index bytes.now 0 ≡ 34 }
+    ensures { IfOk result (λ step. IsStep bytes.now step) }
+{
+    let Quoted { len, value, wide, stray, ending } = read_quoted(alloc, rest(bytes, 1))?;
+    match fault_of(ending, false, value.len(), wide, stray, 1) {
+        Some(spot) => Ok(Step::Fault(spot)),
+        None => Ok(Step::Token { len: len + 2, kind: Kind::Text(value) }),
+    }
+}
+
+/// At `#` and a quote.
+fn character_step(alloc: Global, bytes: &[u8]) -> Result<Step, NoMemory>
+    requires first { slice_index bytes.now 0 ≡ 35 }
+    requires second { slice_index bytes.now 1 ≡ 34 }
+    ensures { IfOk result (λ step. IsStep bytes.now step) }
+{
+    let Quoted { len, value, wide, stray, ending } = read_quoted(alloc, rest(bytes, 2))?;
+    match fault_of(ending, true, value.len(), wide, stray, 2) {
+        Some(spot) => Ok(Step::Fault(spot)),
+        None => Ok(Step::Token { len: len + 3, kind: Kind::Char(value[0]) }),
+    }
+}
+
+/// At the opening of a comment.
+fn comment_step(bytes: &[u8]) -> Step
+    requires first { slice_index bytes.now 0 ≡ 40 }
+    requires second { slice_index bytes.now 1 ≡ 42 }
+    ensures { IsStep bytes.now result }
+{
+    match comment_len(rest(bytes, 2)) {
+        Some(len) => Step::Gap { len: len + 2 },
+        None => Step::Fault(Spot { back: 0, trouble: Trouble::Unclosed }),
+    }
+}
+
+/// Where no white space, comment or constant in quotes begins.
+fn plain_step(bytes: &[u8]) -> Step
+    requires some { 0 < length bytes.now }
+    requires no_space { is_space (slice_index bytes.now 0) ≡ false }
+    requires no_comment { NoComment bytes.now }
+    requires no_constant { OpensNone bytes.now }
+    ensures { IsStep bytes.now result }
+{
+    match plain_at(bytes) {
+        None => Step::Fault(Spot { back: 0, trouble: Trouble::BadToken }),
+        Some(found) => match found.class {
+            Class::Int => match integer(&bytes[..found.len]) {
+                Some(value) => Step::Token { len: found.len, kind: Kind::Int(value) },
+                None => Step::Fault(Spot { back: 0, trouble: Trouble::LiteralRange }),
+            },
+            class => Step::Token { len: found.len, kind: Kind::Plain(class) },
+        },
+    }
+}
+
+/// What stands at the front.
+pub fn step_at(alloc: Global, bytes: &[u8]) -> Result<Step, NoMemory>
+    requires { 0 < length bytes.now }
+    ensures { IfOk result (λ step. IsStep bytes.now step) }
+{
+    let first = byte_at(bytes, 0);
+    let second = byte_at(bytes, 1);
+    if is_space(first) {
+        Ok(Step::Gap { len: 1 })
+    } else if first == b'(' && second == b'*' {
+        Ok(comment_step(bytes))
+    } else if first == b'"' {
+        string_step(alloc, bytes)
+    } else if first == b'#' && second == b'"' {
+        character_step(alloc, bytes)
+    } else {
+        Ok(plain_step(bytes))
+    }
+}
