@@ -71,12 +71,12 @@ pub no_stray : (s : List ℕ) (ps : List Part) (o : Option ℕ) → FirstStray s
 no_stray s ps o (strays.FirstStray.none u us h) e = h
 no_stray s ps o (strays.FirstStray.at a t c us vs p h l n q) e = cc
 
-right_false : (a b : Bool) → (a || b) ≡ false → b ≡ false
+pub right_false : (a b : Bool) → (a || b) ≡ false → b ≡ false
 right_false true b h = cc
 right_false false b h = h
 
 -- a control byte stands in no reading without one
-no_control : (r : List ℕ) (rs : List Part) → AreParts r rs → has_stray rs ≡ false → (x y : List ℕ) (d : ℕ) → is_control d ≡ true → d ≢ 10 → r ++ x ≡ d ∷ y → r ≡ []
+pub no_control : (r : List ℕ) (rs : List Part) → AreParts r rs → has_stray rs ≡ false → (x y : List ℕ) (d : ℕ) → is_control d ≡ true → d ≢ 10 → r ++ x ≡ d ∷ y → r ≡ []
 no_control r rs quoted.AreParts.nothing h x y d l n e = refl
 no_control r rs (quoted.AreParts.part u v us vs p q) h x y d l n e =
     let z = part_unique u (d ∷ []) us (stray ∷ []) p (quoted.IsPart.control d l n) (v ++ x) y (sym (append_assoc u v x) ∙ e) in

@@ -103,14 +103,14 @@ string_token rest s ps y w c value v n e =
     spelled : Spells (34 ∷ s ++ 34 ∷ []) (meaning.text value)
     spelled = subst (λ x. Spells (34 ∷ s ++ 34 ∷ []) (meaning.text x)) v (spellings.Spells.text s (values ps) (subst (AreParts s) clean.0 w.parts) clean.1)
     by : (t more : List ℕ) (m : Meaning) → Quoted t m → t ++ more ≡ 34 ∷ rest → length t ≤ length (34 ∷ s ++ 34 ∷ [])
-    by t more m (string u codes a) q =
+    by t more m (string u codes a _) q =
         let r : u ++ 34 ∷ more ≡ rest = sym (append_assoc u (34 ∷ []) more) ∙ tail q in
         let same = same_constant (34 ∷ []) rest s ps y w u more _ a r in
         let l = ap length same in let i = length-append u (34 ∷ []) in let j = length-append s (34 ∷ []) in omega arith
       where
         tail : {x z : List ℕ} → 34 ∷ x ≡ 34 ∷ z → x ≡ z
         tail q = cc
-    by t more m (character u k a) q = absurd (let h = ap (λ (x : List ℕ). get_or x 0 0) q in omega (arith, h))
+    by t more m (character u k a _) q = absurd (let h = ap (λ (x : List ℕ). get_or x 0 0) q in omega (arith, h))
     longest : IsLongest (34 ∷ s ++ 34 ∷ []) y
     longest t more m h q = go (plain_most t m h more)
       where
@@ -138,8 +138,8 @@ character_token rest s ps y w c k v n e =
     spelled : Spells (35 ∷ 34 ∷ s ++ 34 ∷ []) (meaning.character k)
     spelled = spellings.Spells.character s k parts small.0
     by : (t more : List ℕ) (m : Meaning) → Quoted t m → t ++ more ≡ 35 ∷ 34 ∷ rest → length t ≤ length (35 ∷ 34 ∷ s ++ 34 ∷ [])
-    by t more m (string u codes a) q = absurd (let h = ap (λ (x : List ℕ). get_or x 0 0) q in omega (arith, h))
-    by t more m (character u d a) q =
+    by t more m (string u codes a _) q = absurd (let h = ap (λ (x : List ℕ). get_or x 0 0) q in omega (arith, h))
+    by t more m (character u d a _) q =
         let r : u ++ 34 ∷ more ≡ rest = sym (append_assoc u (34 ∷ []) more) ∙ tail q in
         let same = same_constant (35 ∷ 34 ∷ []) rest s ps y w u more _ a r in
         let l = ap length same in let i = length-append u (34 ∷ []) in let j = length-append s (34 ∷ []) in omega arith

@@ -4,6 +4,7 @@ pub mod CommentScanLemmas
 pub mod ConstantFaults
 pub mod ConstantSteps
 pub mod ConstantTokens
+pub mod FileLemmas
 pub mod FoundLemmas
 pub mod ItemLemmas
 pub mod ItemsFound
@@ -17,5 +18,6 @@ pub mod ReservedLemmas
 pub mod RunLemmas
 pub mod StageLemmas
 pub mod StepLemmas
+pub mod UniqueLemmas
 pub mod UnsignedLemmas
 pub mod WordLemmas

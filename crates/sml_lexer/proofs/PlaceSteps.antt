@@ -29,8 +29,8 @@ no_opening bytes p x n tokens.Opening.string e = n.no_quote (ap (λ (y : List �
 no_opening bytes p x n tokens.Opening.character e = n.no_hash (ap (λ (y : List ℕ). get_or y 0 0) (sym e)) (ap (λ (y : List ℕ). get_or y 1 0) (sym e))
 
 not_quoted : (bytes t more : List ℕ) (m : Meaning) → OpensNone bytes → Quoted t m → t ++ more ≡ bytes → ⊥
-not_quoted bytes t more m n (string s codes p) e = n.no_quote (ap (λ (y : List ℕ). get_or y 0 0) (sym e))
-not_quoted bytes t more m n (character s k p) e = n.no_hash (ap (λ (y : List ℕ). get_or y 0 0) (sym e)) (ap (λ (y : List ℕ). get_or y 1 0) (sym e))
+not_quoted bytes t more m n (string s codes p _) e = n.no_quote (ap (λ (y : List ℕ). get_or y 0 0) (sym e))
+not_quoted bytes t more m n (character s k p _) e = n.no_hash (ap (λ (y : List ℕ). get_or y 0 0) (sym e)) (ap (λ (y : List ℕ). get_or y 1 0) (sym e))
 
 no_gap : (bytes t more : List ℕ) → is_space (get_or bytes 0 0) ≡ false → NoComment bytes → IsGap t → t ++ more ≡ bytes → ⊥
 no_gap bytes t more s n (gaps.IsGap.space c h) e = let x : true ≡ false = sym h ∙ ap is_space (ap (λ (y : List ℕ). get_or y 0 0) e) ∙ s in cc

@@ -1,6 +1,6 @@
 -- The scan finds a spelling, and no longer one stands there.
 use Rattle.std.proofs.Common.{◌≡◌, ◌≢◌, ℕ, zero, suc, ◌+◌, ◌-◌, ◌<◌, ◌≤◌, Bool, true, false, not, ◌&&◌, ◌||◌, cond, eqb, leb, ltb, List, [], ◌∷◌, ◌++◌, Option, Some, None, length, take, drop, get_or, ℤ, pos, neg_ℤ, refl, sym, ap, ◌∙◌, subst, arith, ◌⊎◌, inl, inr}
-use Rattle.std.specs.List.{prefix_len, list_all}
+use Rattle.std.specs.List.{prefix_len, list_all, AllByRecursion}
 use Rattle.std.proofs.lemmas.List.{append_assoc, length-append, append-nil, take_all, take_at}
 use Rattle.std.proofs.lemmas.Bool.{and_parts, and_from, and_left, and_right, eqb-true, cond-true, cond-false, eq-eqb, ne_eqb, cases_Bool, cases_eq, le-leb, lt-leb, leb-true}
 use Rattle.sml_lexer.specs.declared.plain.Found.{Found}
@@ -99,8 +99,8 @@ pub record Most (t : List ℕ) (m : Meaning) (more : List ℕ) : Type 0 where
 
 -- a constant in quotes
 pub data Quoted : List ℕ → Meaning → Type 0 where
-  string : (s codes : List ℕ) → AreParts s (characters codes) → Quoted (34 ∷ s ++ 34 ∷ []) (meaning.text codes)
-  character : (s : List ℕ) (n : ℕ) → AreParts s (characters (n ∷ [])) → Quoted (35 ∷ 34 ∷ s ++ 34 ∷ []) (meaning.character n)
+  string : (s codes : List ℕ) → AreParts s (characters codes) → AllByRecursion (λ n. n ≤ 255) codes → Quoted (34 ∷ s ++ 34 ∷ []) (meaning.text codes)
+  character : (s : List ℕ) (n : ℕ) → AreParts s (characters (n ∷ [])) → n ≤ 255 → Quoted (35 ∷ 34 ∷ s ++ 34 ∷ []) (meaning.character n)
 
 at_least : (t : List ℕ) (m : Meaning) (more : List ℕ) (f : Found) → plain_at (t ++ more) ≡ Some f → IsMost t m f → Most t m more
 at_least t m more f e h = record { answer = f; is = e; most = h }
@@ -215,5 +215,5 @@ plain_most t m (spellings.Spells.fraction s r d h) more = inr (real_class_most s
 plain_most t m (spellings.Spells.exponent s e d h) more = inr (real_class_most s e more d (exponent e h))
 plain_most t m (spellings.Spells.fraction_exponent s r e d h k) more =
     inr (subst (λ x. Most x meaning.real more) (sym (append_assoc s (46 ∷ r) e)) (real_class_most s (46 ∷ r ++ e) more d (both r e h k)))
-plain_most t m (spellings.Spells.text s codes p l) more = inl (string s codes p)
-plain_most t m (spellings.Spells.character s n p l) more = inl (character s n p)
+plain_most t m (spellings.Spells.text s codes p l) more = inl (string s codes p l)
+plain_most t m (spellings.Spells.character s n p l) more = inl (character s n p l)
