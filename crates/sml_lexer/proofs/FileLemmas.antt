@@ -81,3 +81,61 @@ faulted_stuck f = record {
   no_gap = λ b a s q p g e. fault_gap a p.0 f.why p.2 s q g e;
   no_token = λ b a t r m p st al e. fault_token a p.0 f.why p.2 t r m st al e;
 }
+
+-- a file that was read to its end has these tokens
+pub read_whole : (file : List ℕ) (ts : List Lexeme) (b a : List ℕ) → Reached file b a ts → a ≡ [] → AreTokens file ts
+read_whole file ts b a r e = subst (AreTokens file) (append-nil ts) (behind (λ x y. y ≡ []) file b a ts r [] (tokens.Behind.here b a e))
+
+-- a fault at a place that was reached is the file's first one
+pub read_fault : (file b a : List ℕ) (ts : List Lexeme) → Reached file b a ts → (back : List ℕ) (why : Trouble) → FailsAt a back why
+  → ((k : List ℕ) (v : Trouble) → FailsAt a k v → (length back < length k) ⊎ ((length back ≡ length k) × (number_of why ≤ number_of v)))
+  → IsFirstFault file (record { at = b ++ back; why = why })
+unfolding Faulted
+read_fault file b a ts r back why f least = record {
+  fails = tokens.Fails.fails (b ++ back) why (ts ++ []) (behind _ file b a ts r [] (tokens.Behind.here b a (back, refl, f)));
+  first = λ g h. go g h;
+}
+  where
+    at_place : (g : Fault) (x y : List ℕ) (vs : List Lexeme) → Behind (Faulted g) x y vs → x ≡ b → y ≡ a → Precedes (record { at = b ++ back; why = why }) g
+    at_place g x y vs (tokens.Behind.here b' a' p) eb ea = later (least p.0 g.why (subst (λ z. FailsAt z p.0 g.why) ea p.2))
+      where
+        size : length g.at ≡ length b + length p.0
+        size = ap length p.1 ∙ ap (λ z. length (z ++ p.0)) eb ∙ length-append b p.0
+        later : (length back < length p.0) ⊎ ((length back ≡ length p.0) × (number_of why ≤ number_of g.why)) → Precedes (record { at = b ++ back; why = why }) g
+        later (inl l) = inl (omega (arith, length-append b back, size))
+        later (inr l) = inr (omega (arith, length-append b back, size, l.0), l.1)
+    at_place g x y vs (tokens.Behind.gap b' s q us h k) eb ea = absurd (fault_gap a back why f s q h (sym ea))
+    at_place g x y vs (tokens.Behind.token b' s q m us st al k) eb ea = absurd (fault_token a back why f s q m st al (sym ea))
+    go : (g : Fault) → Fails file g → Precedes (record { at = b ++ back; why = why }) g
+    go g (tokens.Fails.fails at v us h) = let x = follow (Faulted g) (faulted_stuck g) file us h b a ts r in at_place g b a x.0 x.2 refl refl
+
+-- the way to the end of a file
+way : (file b a : List ℕ) (ts : List Lexeme) → Reached file b a ts → (us : List Lexeme) → Behind (λ x y. y ≡ []) b a us → (e : List ℕ) × Reached file e [] (ts ++ us)
+way file b a ts r us (tokens.Behind.here b' a' p) = (b, subst (Reached file b []) (sym (append-nil ts)) (subst (λ x. Reached file b x ts) p r))
+way file b a ts r us (tokens.Behind.gap b' s q vs g k) = way file (b ++ s) q ts (gap b s q ts r g) us k
+way file b a ts r us (tokens.Behind.token b' s q m vs st al k) =
+    let w = way file (b ++ s) q (ts ++ record { before = b; text = s; meaning = m } ∷ []) (token b s q m ts r st al) vs k in
+    (w.0, subst (Reached file w.0 []) (append_assoc ts (record { before = b; text = s; meaning = m } ∷ []) vs) w.1)
+
+nothing_left : (P : List ℕ → List ℕ → Type 0) (b a : List ℕ) (vs : List Lexeme) → Behind P b a vs → a ≡ [] → (vs ≡ []) × P b a
+nothing_left P b a vs (tokens.Behind.here b' a' p) e = (refl, p)
+nothing_left P b a vs (tokens.Behind.gap b' s q us g k) e = absurd (some_front s q (no_gap_here s g) (sym e))
+nothing_left P b a vs (tokens.Behind.token b' s q m us st al k) e = absurd (some_front s q (not_empty_spelling s m st.spelled) (sym e))
+
+-- a file has one list of tokens
+pub tokens_unique : (file : List ℕ) (ts us : List Lexeme) → AreTokens file ts → AreTokens file us → ts ≡ us
+unfolding Ended
+tokens_unique file ts us h k =
+    let w = way file [] file [] start ts h in
+    let f = follow Ended ended_stuck file us k w.0 [] ts w.1 in
+    let n = nothing_left Ended w.0 [] f.0 f.2 refl in
+    sym (f.1 ∙ ap (λ x. ts ++ x) n.0 ∙ append-nil ts)
+
+-- and no fault then
+pub tokens_or_faults : (file : List ℕ) (ts : List Lexeme) (g : Fault) → AreTokens file ts → Fails file g → ⊥
+unfolding Faulted
+tokens_or_faults file ts g h (tokens.Fails.fails at why us k) =
+    let w = way file [] file [] start ts h in
+    let f = follow (Faulted g) (faulted_stuck g) file us k w.0 [] ts w.1 in
+    let n = nothing_left (Faulted g) w.0 [] f.0 f.2 refl in
+    fault_some [] n.1.0 g.why n.1.2 refl

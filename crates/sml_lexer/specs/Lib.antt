@@ -6,12 +6,14 @@ pub mod Gaps
 pub mod IntegerScan
 pub mod Meanings
 pub mod Numbers
+pub mod PlaceScan
 pub mod Places
 pub mod PlainScan
 pub mod Quoted
 pub mod QuotedRead
 pub mod QuotedScan
 pub mod Reserved
+pub mod Shown
 pub mod Spellings
 pub mod Steps
 pub mod Tokens

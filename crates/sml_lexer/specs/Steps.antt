@@ -1,6 +1,5 @@
 -- What stands at a place of a file.
 use Rattle.std.specs.Prelude.{◌≡◌, ◌≢◌, slice_index, ℕ, ◌+◌, ◌≤◌, ◌<◌, Bool, true, false, not, ◌&&◌, ◌==◌, List, length, take, drop, Option, Some, None, if◌then◌else◌, ◌⊎◌}
-use Rattle.sml_lexer.specs.declared.plain.Class.{Class}
 use Rattle.sml_lexer.specs.declared.quoted.Ending.{Ending}
 use Rattle.sml_lexer.specs.declared.quoted.Ending.TheVariants as ending
 use Rattle.sml_lexer.specs.declared.step.Kind.{Kind}
@@ -10,7 +9,6 @@ use Rattle.sml_lexer.specs.declared.step.Step.{Step}
 use Rattle.sml_lexer.specs.declared.step.Step.TheVariants as step
 use Rattle.sml_lexer.specs.declared.step.Trouble.{Trouble}
 use Rattle.sml_lexer.specs.declared.step.Trouble.TheVariants.{BadToken, Unclosed, LiteralRange}
-use Rattle.sml_lexer.specs.Classified.{meaning_of}
 use Rattle.sml_lexer.specs.Gaps.{IsGap}
 use Rattle.sml_lexer.specs.Meanings.{Meaning}
 use Rattle.sml_lexer.specs.Meanings as meaning
@@ -18,7 +16,13 @@ use Rattle.sml_lexer.specs.Tokens.{StandsAs, IsAllowed, FailsAt, number_of}
 
 -- what a token of a kind and a spelling means
 abbrev pub kind_meaning : Kind → List ℕ → Meaning
-kind_meaning (kind.Plain c) s = meaning_of c s
+kind_meaning (kind.Word w) s = meaning.word w
+kind_meaning kind.Id s = meaning.identifier s
+kind_meaning kind.Symbol s = meaning.symbol s
+kind_meaning kind.Long s = meaning.long s
+kind_meaning kind.TyVar s = meaning.type_variable s
+kind_meaning kind.WordLit s = meaning.word_constant
+kind_meaning kind.Real s = meaning.real
 kind_meaning (kind.Int z) s = meaning.integer z
 kind_meaning (kind.Text codes) s = meaning.text codes.items
 kind_meaning (kind.Char n) s = meaning.character n

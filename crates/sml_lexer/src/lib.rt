@@ -4,9 +4,12 @@
 pub mod bytes;
 pub mod comment;
 pub mod integer;
+pub mod place;
 pub mod plain;
 pub mod quoted;
 pub mod reserved;
 pub mod step;
+pub mod store;
+pub mod token;
 
 pub use reserved::Reserved;

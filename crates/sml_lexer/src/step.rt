@@ -10,6 +10,7 @@ use crate::bytes::{byte_at, is_space, rest};
 use crate::comment::comment_len;
 use crate::integer::integer;
 use crate::plain::{Class, plain_at};
+use crate::reserved::Reserved;
 use crate::quoted::{Ending, Quoted, read_quoted};
 use smlc_base::NoMemory;
 use std::alloc::Global;
@@ -32,11 +33,16 @@ pub struct Spot {
 /// What a token is.
 #[derive(Debug, Drop)]
 pub enum Kind {
-    /// Of this class, and no integer constant.
-    Plain(Class),
+    Word(Reserved),
+    Id,
+    Symbol,
+    Long,
+    TyVar,
     Int(i64),
-    Text(Vec<u8>),
+    WordLit,
+    Real,
     Char(u8),
+    Text(Vec<u8>),
 }
 
 /// What stands at a place.
@@ -124,7 +130,13 @@ fn plain_step(bytes: &[u8]) -> Step
                 Some(value) => Step::Token { len: found.len, kind: Kind::Int(value) },
                 None => Step::Fault(Spot { back: 0, trouble: Trouble::LiteralRange }),
             },
-            class => Step::Token { len: found.len, kind: Kind::Plain(class) },
+            Class::Word(word) => Step::Token { len: found.len, kind: Kind::Word(word) },
+            Class::Id => Step::Token { len: found.len, kind: Kind::Id },
+            Class::Symbol => Step::Token { len: found.len, kind: Kind::Symbol },
+            Class::Long => Step::Token { len: found.len, kind: Kind::Long },
+            Class::TyVar => Step::Token { len: found.len, kind: Kind::TyVar },
+            Class::WordLit => Step::Token { len: found.len, kind: Kind::WordLit },
+            Class::Real => Step::Token { len: found.len, kind: Kind::Real },
         },
     }
 }

@@ -21,22 +21,36 @@ stranger : (bytes : List ℕ) → 0 < length bytes → is_space (get_or bytes 0 
 stranger [] h s c n e = absurd (omega arith)
 stranger (b ∷ bytes) h s c n e = stranger_step b bytes s c n e
 
-allowed : (k : Class) (s : List ℕ) → (k ≡ class.Int → ⊥) → IsAllowed (meaning_of k s)
-allowed (class.Word w) s h = tt
-allowed class.Id s h = tt
-allowed class.Symbol s h = tt
-allowed class.Long s h = tt
-allowed class.TyVar s h = tt
-allowed class.Int s h = absurd (h refl)
-allowed class.WordLit s h = tt
-allowed class.Real s h = tt
-
 pub returns-in-None : goal.returns-in-None
 returns-in-None c = stranger c.args.bytes.now c.requires.some c.requires.no_space c.requires.no_comment c.requires.no_constant (sym c.in-None.ensures.value)
 
-pub returns-in_default : goal.returns-in_default
-returns-in_default c =
-    plain_token c.args.bytes.now c.requires.some c.requires.no_comment c.requires.no_constant c.in-Some.found (sym c.in-Some.ensures.value) _ refl (allowed _ _ c.in_default.not-Int)
+pub returns-in-Word : goal.returns-in-Word
+returns-in-Word c =
+    plain_token c.args.bytes.now c.requires.some c.requires.no_comment c.requires.no_constant c.in-Some.found (sym c.in-Some.ensures.value) _ (ap (λ k. meaning_of k (take c.in-Some.found.len c.args.bytes.now)) c.in-Word.is) tt
+
+pub returns-in-Id : goal.returns-in-Id
+returns-in-Id c =
+    plain_token c.args.bytes.now c.requires.some c.requires.no_comment c.requires.no_constant c.in-Some.found (sym c.in-Some.ensures.value) _ (ap (λ k. meaning_of k (take c.in-Some.found.len c.args.bytes.now)) c.in-Id.is) tt
+
+pub returns-in-Symbol : goal.returns-in-Symbol
+returns-in-Symbol c =
+    plain_token c.args.bytes.now c.requires.some c.requires.no_comment c.requires.no_constant c.in-Some.found (sym c.in-Some.ensures.value) _ (ap (λ k. meaning_of k (take c.in-Some.found.len c.args.bytes.now)) c.in-Symbol.is) tt
+
+pub returns-in-Long : goal.returns-in-Long
+returns-in-Long c =
+    plain_token c.args.bytes.now c.requires.some c.requires.no_comment c.requires.no_constant c.in-Some.found (sym c.in-Some.ensures.value) _ (ap (λ k. meaning_of k (take c.in-Some.found.len c.args.bytes.now)) c.in-Long.is) tt
+
+pub returns-in-TyVar : goal.returns-in-TyVar
+returns-in-TyVar c =
+    plain_token c.args.bytes.now c.requires.some c.requires.no_comment c.requires.no_constant c.in-Some.found (sym c.in-Some.ensures.value) _ (ap (λ k. meaning_of k (take c.in-Some.found.len c.args.bytes.now)) c.in-TyVar.is) tt
+
+pub returns-in-WordLit : goal.returns-in-WordLit
+returns-in-WordLit c =
+    plain_token c.args.bytes.now c.requires.some c.requires.no_comment c.requires.no_constant c.in-Some.found (sym c.in-Some.ensures.value) _ (ap (λ k. meaning_of k (take c.in-Some.found.len c.args.bytes.now)) c.in-WordLit.is) tt
+
+pub returns-in-Real : goal.returns-in-Real
+returns-in-Real c =
+    plain_token c.args.bytes.now c.requires.some c.requires.no_comment c.requires.no_constant c.in-Some.found (sym c.in-Some.ensures.value) _ (ap (λ k. meaning_of k (take c.in-Some.found.len c.args.bytes.now)) c.in-Real.is) tt
 
 pub returns-in-Some-integer : goal.returns-in-Some-integer
 returns-in-Some-integer c =
