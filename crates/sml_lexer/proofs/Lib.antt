@@ -9,6 +9,7 @@ pub mod FoundLemmas
 pub mod ItemLemmas
 pub mod ItemsFound
 pub mod NumberLemmas
+pub mod PlaceLemmas
 pub mod PlaceSteps
 pub mod PlainLemmas
 pub mod PlainMost

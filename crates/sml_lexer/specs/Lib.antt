@@ -2,6 +2,7 @@ pub mod Bytes
 pub mod Classes
 pub mod Classified
 pub mod CommentScan
+pub mod Drafts
 pub mod Gaps
 pub mod IntegerScan
 pub mod Meanings

@@ -1,6 +1,6 @@
 //! Classes of bytes, and runs of a class.
 
-ghost use Rattle.std.specs.Prelude.{◌≡◌, ◌≤◌, length, drop, slice_index};
+ghost use Rattle.std.specs.Prelude.{◌≡◌, ◌≤◌, length, take, drop, slice_index};
 ghost use Rattle.std.specs.List.{prefix_len};
 ghost use Rattle.sml_lexer.specs.Bytes.{is_letter, is_digit, is_hexadecimal, is_alphanumeric, is_sign, is_space, is_control};
 ghost use Rattle.sml_lexer.specs.Classes.{in_class};
@@ -106,4 +106,12 @@ pub fn rest(bytes: &[u8], at: usize) -> &[u8]
     ensures { result.now ≡ drop at bytes.now }
 {
     &bytes[at..]
+}
+
+/// So many bytes at the front.
+pub fn front(bytes: &[u8], len: usize) -> &[u8]
+    requires { len ≤ length bytes.now }
+    ensures { result.now ≡ take len bytes.now }
+{
+    &bytes[..len]
 }

@@ -3,6 +3,7 @@
 
 pub mod bytes;
 pub mod comment;
+pub mod draft;
 pub mod integer;
 pub mod place;
 pub mod plain;
