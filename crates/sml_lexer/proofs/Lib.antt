@@ -4,6 +4,7 @@ pub mod CommentScanLemmas
 pub mod ConstantFaults
 pub mod ConstantSteps
 pub mod ConstantTokens
+pub mod DraftLemmas
 pub mod FileLemmas
 pub mod FoundLemmas
 pub mod ItemLemmas
