@@ -1,6 +1,6 @@
 //! Texts by number.
 
-ghost use Rattle.std.specs.Prelude.{◌≡◌, [], ◌<◌, ◌^◌, length, slice_get, IfOk, OnOk, OnErr};
+ghost use Rattle.std.specs.Prelude.{◌≡◌, [], ◌<◌, ◌^◌, length, slice_get, IfOk, OnOk, OnErr, IsTrue, ◌↔◌};
 ghost use Rattle.smlc_base.specs.Texts.{with_text, AreDistinct};
 
 use crate::memory::NoMemory;
@@ -51,6 +51,21 @@ impl Names {
         let copy = text.to_vec(alloc)?;
         let (at, _) = self.texts.insert_full(copy)?;
         Ok(Name(at as u32))
+    }
+
+    /// How many texts there are.
+    pub fn len(&self) -> usize
+        ensures len { result ≡ length self.now }
+        ensures distinct { AreDistinct self.now }
+    {
+        self.texts.len()
+    }
+
+    /// Whether there is none.
+    pub fn is_empty(&self) -> bool
+        ensures { IsTrue result ↔ (self.now ≡ []) }
+    {
+        self.texts.is_empty()
     }
 
     /// The text of a name. Each text has one name.
