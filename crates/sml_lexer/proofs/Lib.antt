@@ -6,6 +6,7 @@ pub mod ConstantSteps
 pub mod ConstantTokens
 pub mod DraftLemmas
 pub mod FileLemmas
+pub mod FilesLemmas
 pub mod FoundLemmas
 pub mod ItemLemmas
 pub mod ItemsFound

@@ -1,8 +1,10 @@
 pub mod Bytes
+pub mod Cited
 pub mod Classes
 pub mod Classified
 pub mod CommentScan
 pub mod Drafts
+pub mod Files
 pub mod Gaps
 pub mod IntegerScan
 pub mod Meanings
@@ -10,6 +12,7 @@ pub mod Numbers
 pub mod PlaceScan
 pub mod Places
 pub mod PlainScan
+pub mod Programs
 pub mod Quoted
 pub mod QuotedRead
 pub mod QuotedScan

@@ -1,7 +1,5 @@
 -- The tokens of the program stand for the tokens of the definition.
-use Rattle.std.specs.Prelude.{◌≡◌, ℕ, ◌<◌, ◌==◌, ◌&&◌, Bool, true, false, List, [], ◌∷◌, ◌++◌, length, slice_get, nat_lt, Option, Some, None, option_map, if◌then◌else◌, ℤ, pos, neg_ℤ, ◌^◌, ◌-◌, int_le}
-use Rattle.std.specs.List.{list_all}
-use Rattle.smlc_base.specs.declared.place.Place.{Place}
+use Rattle.std.specs.Prelude.{◌≡◌, ℕ, ◌==◌, List, [], ◌∷◌, ◌++◌, length, slice_get, Option, Some, None, option_map, if◌then◌else◌}
 use Rattle.sml_lexer.specs.declared.token.Token.{Token}
 use Rattle.sml_lexer.specs.declared.token.TokenKind.{TokenKind}
 use Rattle.sml_lexer.specs.declared.token.TokenKind.TheVariants.{Word, Id, Symbol, Long, TyVar, Int, WordLit, Real, Char, Text}
@@ -36,19 +34,6 @@ pub record Shows (file : ℕ) (names texts : List (List ℕ)) (t : Token) (l : L
 pub data ShowAll (file : ℕ) (names texts : List (List ℕ)) : List Token → List Lexeme → Type 0 where
   none : ShowAll file names texts [] []
   one : (t : Token) (l : Lexeme) (ts : List Token) (ls : List Lexeme) → Shows file names texts t l → ShowAll file names texts ts ls → ShowAll file names texts (t ∷ ts) (l ∷ ls)
-
--- the names and texts that a kind cites stand there, and an integer constant lies in its range
-abbrev pub is_cited : ℕ → ℕ → TokenKind → Bool
-is_cited names texts (Word w) = true
-is_cited names texts (Id n) = nat_lt n.0 names
-is_cited names texts (Symbol n) = nat_lt n.0 names
-is_cited names texts (Long n) = nat_lt n.0 names
-is_cited names texts (TyVar n) = nat_lt n.0 names
-is_cited names texts (Int z) = int_le (neg_ℤ (pos (2 ^ 62))) z && int_le z (pos (2 ^ 62 - 1))
-is_cited names texts (WordLit v) = true
-is_cited names texts Real = true
-is_cited names texts (Char n) = true
-is_cited names texts (Text i) = nat_lt i texts
 
 -- more of the same list
 abbrev pub Extends : List (List ℕ) → List (List ℕ) → Type 0

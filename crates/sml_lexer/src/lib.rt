@@ -4,7 +4,9 @@
 pub mod bytes;
 pub mod comment;
 pub mod draft;
+pub mod files;
 pub mod integer;
+pub mod lexed;
 pub mod place;
 pub mod plain;
 pub mod quoted;

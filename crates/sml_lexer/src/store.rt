@@ -1,9 +1,8 @@
 //! Tokens with their names and texts put away.
 
-ghost use Rattle.std.specs.Prelude.{◌≡◌, ◌≤◌, ◌<◌, ◌+◌, ◌^◌, length, vec_len, Some, IfOk, true};
-ghost use Rattle.sml_lexer.specs.Shown.{meaning_in, is_cited, Extends};
+ghost use Rattle.std.specs.Prelude.{◌≡◌, ◌≤◌, ◌<◌, ◌+◌, ◌^◌, length, vec_len, Some, IfOk};
+ghost use Rattle.sml_lexer.specs.Shown.{meaning_in, Extends};
 ghost use Rattle.sml_lexer.specs.Steps.{kind_meaning};
-ghost use Rattle.sml_lexer.specs.Tokens.{IsAllowed};
 
 use crate::step::Kind;
 use crate::token::TokenKind;
