@@ -37,9 +37,12 @@ pub fn tokens(alloc: Global, files: &[Vec<u8>]) -> Result<Lexed, CompileError>
     ensures ok { IfOk result (λ lexed. IsLexed (map (λ f. f.items) files.now) lexed) }
     ensures err { IfErr result (λ e. IsRefused (map (λ f. f.items) files.now) e) }
 {
-    if let Some(i) = too_long(files) {
-        let place = Place { file: i as u32 + 1, line: 1, col: 1 };
-        return Err(CompileError::Refused(Refusal::TooLong(place)));
+    match too_long(files) {
+        Some(i) => {
+            let place = Place { file: i as u32 + 1, line: 1, col: 1 };
+            return Err(CompileError::Refused(Refusal::TooLong(place)));
+        }
+        None => {}
     }
     let mut draft = Draft {
         tokens: Vec::new(alloc),
