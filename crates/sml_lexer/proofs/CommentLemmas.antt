@@ -1,6 +1,5 @@
 -- The scan of a comment finds what closes it.
-use Rattle.std.proofs.Common.{◌≡◌, ◌≢◌, ℕ, zero, suc, ◌+◌, ◌-◌, ◌<◌, ◌≤◌, Bool, true, false, ◌&&◌, ◌||◌, cond, eqb, List, [], ◌∷◌, ◌++◌, Option, Some, None, length, take, drop, refl, sym, ap, ◌∙◌, subst, arith, ◌⊎◌, inl, inr}
-use Rattle.std.specs.Prelude.{option_map}
+use Rattle.std.proofs.Common.{◌≡◌, ◌≢◌, ℕ, zero, suc, ◌+◌, ◌-◌, Bool, true, false, ◌&&◌, ◌||◌, cond, eqb, List, [], ◌∷◌, ◌++◌, Option, Some, None, length, take, refl, sym, ap, ◌∙◌, subst, arith, ◌⊎◌, inl, inr}
 use Rattle.std.proofs.lemmas.List.{append_assoc, length-append, append-nil}
 use Rattle.std.proofs.lemmas.Bool.{and_parts, eqb-true, cond-true, cond-false, eq-eqb, ne_eqb, cases_eq}
 use Rattle.sml_lexer.specs.Gaps.{is_mark, IsComment, close, byte, comment}
@@ -66,8 +65,10 @@ take_two c d s j k e = ap (λ n. take n (c ∷ d ∷ s)) (let h : k ≡ suc (suc
 module _ (c d : ℕ) (s : List ℕ) (depth : ℕ) where
   abbrev opened : Option ℕ
   opened = shifted 2 (close_at (depth + 1) s)
+
   abbrev closed : Option ℕ
   closed = cond (eqb depth 0) (Some 2) (shifted 2 (close_at (depth - 1) s))
+
   abbrev other : Option ℕ
   other = shifted 1 (close_at depth (d ∷ s))
 
@@ -99,6 +100,7 @@ module _ (c d : ℕ) (s : List ℕ) (depth : ℕ) where
       where
         whole : (j : ℕ) → k ≡ 2 + j → 42 ∷ 41 ∷ take j s ≡ take k (c ∷ d ∷ s)
         whole j size = ap (λ x. x ∷ 41 ∷ take j s) (sym p) ∙ ap (λ x. c ∷ x ∷ take j s) (sym q) ∙ sym (take_two c d s j k size)
+
         go : (depth ≡ 0) ⊎ (depth ≢ 0) → Rows (suc depth) (take k (c ∷ d ∷ s))
         go (inl z) =
             let is : Some 2 ≡ Some k = sym (by Close m ∙ cond-true _ _ _ (eq-eqb depth 0 z)) ∙ e in
@@ -111,7 +113,7 @@ module _ (c d : ℕ) (s : List ℕ) (depth : ℕ) where
             subst (Rows (suc depth)) (whole j size) (rows_closed depth (take j s) inner)
 
 found_step : (c d : ℕ) (s : List ℕ) (depth k : ℕ) → close_at depth (c ∷ d ∷ s) ≡ Some k → ((n j : ℕ) → close_at n s ≡ Some j → Rows (suc n) (take j s))
-  → ((j : ℕ) → close_at depth (d ∷ s) ≡ Some j → Rows (suc depth) (take j (d ∷ s))) → Marks c d s → Rows (suc depth) (take k (c ∷ d ∷ s))
+    → ((j : ℕ) → close_at depth (d ∷ s) ≡ Some j → Rows (suc depth) (take j (d ∷ s))) → Marks c d s → Rows (suc depth) (take k (c ∷ d ∷ s))
 found_step c d s depth k e of_s of_d (opens p q m) = on_opened c d s depth k e of_s p q m
 found_step c d s depth k e of_s of_d (closes p q m) = on_closed c d s depth k e of_s p q m
 found_step c d s depth k e of_s of_d (neither p m) = on_byte c d s depth k e of_s of_d p m

@@ -1,26 +1,22 @@
 -- The faults of a constant in quotes that was read to its end.
-use Rattle.std.proofs.Common.{◌≡◌, ◌≢◌, ℕ, zero, suc, ◌+◌, ◌-◌, ◌<◌, ◌≤◌, Bool, true, false, ◌||◌, cond, ltb, List, [], ◌∷◌, ◌++◌, Option, Some, None, length, take, drop, get_or, ℤ, refl, sym, ap, ◌∙◌, subst, arith, ◌⊎◌, inl, inr}
-use Rattle.std.proofs.lemmas.List.{append_assoc, length-append, append-nil, append_cancel_left}
-use Rattle.std.proofs.lemmas.Bool.{and_parts, or_left, or_right}
+use Rattle.std.proofs.Common.{◌≡◌, ◌≢◌, ℕ, true, false, List, [], ◌∷◌, ◌++◌, get_or, ℤ, refl, sym, ap, ◌∙◌, subst, arith, ◌⊎◌, inl, inr}
+use Rattle.std.proofs.lemmas.List.{append_assoc}
+use Rattle.std.proofs.lemmas.Bool.{or_left}
 use Rattle.sml_lexer.specs.declared.quoted.Ending.{Ending}
 use Rattle.sml_lexer.specs.declared.quoted.Ending.TheVariants as ending
 use Rattle.sml_lexer.specs.declared.reserved.Reserved.TheVariants.{KwHash}
 use Rattle.sml_lexer.specs.declared.step.Trouble.{Trouble}
 use Rattle.sml_lexer.specs.declared.step.Trouble.TheVariants.{BadToken, Unclosed, LiteralRange}
 use Rattle.sml_lexer.specs.Bytes.{is_control, is_digit}
-use Rattle.sml_lexer.specs.Numbers.{AreSome}
 use Rattle.sml_lexer.specs.Meanings.{Meaning}
 use Rattle.sml_lexer.specs.Meanings as meaning
-use Rattle.sml_lexer.specs.Quoted.{Part, character, stray, AreParts, has_wide, character_count}
-use Rattle.sml_lexer.specs.Quoted as quoted
-use Rattle.sml_lexer.specs.QuotedRead.{values, has_stray, FirstStray, Ends}
-use Rattle.sml_lexer.specs.QuotedRead as strays
+use Rattle.sml_lexer.specs.Quoted.{Part, AreParts, has_wide, character_count}
 use Rattle.sml_lexer.specs.Spellings.{Spells}
 use Rattle.sml_lexer.specs.Spellings as spellings
 use Rattle.sml_lexer.specs.Tokens.{Opening, FailsAt, StandsAs}
 use Rattle.sml_lexer.specs.Tokens as tokens
-use Rattle.sml_lexer.proofs.StageLemmas.{IsWhole, front, one_end, Stage, short, long, stage}
-use Rattle.sml_lexer.proofs.QuotedReadLemmas.{wide-append, stray-append}
+use Rattle.sml_lexer.proofs.StageLemmas.{IsWhole, front, one_end}
+use Rattle.sml_lexer.proofs.QuotedReadLemmas.{wide-append}
 use Rattle.sml_lexer.proofs.PlainLemmas.{digit_head}
 
 -- the faults of a constant
@@ -69,6 +65,7 @@ not_integer (c ∷ s) rest a z h e d t = go (integer_first (c ∷ s) _ z h refl)
   where
     same : c ≡ get_or a 0 0
     same = ap (λ x. get_or x 0 0) e
+
     go : (is_digit c ≡ true) ⊎ (c ≡ 126) → ⊥
     go (inl k) = let x : true ≡ false = sym k ∙ ap is_digit same ∙ d in cc
     go (inr k) = t (sym same ∙ k)

@@ -1,7 +1,7 @@
 -- A constant in quotes is a token, or its first fault is known.
-use Rattle.std.proofs.Common.{◌≡◌, ◌≢◌, ℕ, zero, suc, ◌+◌, ◌-◌, ◌<◌, ◌≤◌, Bool, true, false, not, ◌&&◌, ◌||◌, cond, eqb, ltb, List, [], ◌∷◌, ◌++◌, Option, Some, None, length, take, drop, get_or, refl, sym, ap, ◌∙◌, subst, arith, ◌⊎◌, inl, inr}
-use Rattle.std.proofs.lemmas.List.{append_assoc, length-append, append-nil, append_cancel_left, take-append-drop, take_at, drop_at}
-use Rattle.std.proofs.lemmas.Bool.{and_parts, or_left, or_right, cond-true, cond-false, cases_Bool, cases_lt, eqb-true, eqb-false, ne_eqb}
+use Rattle.std.proofs.Common.{◌≡◌, ◌≢◌, ℕ, suc, ◌+◌, ◌<◌, ◌≤◌, Bool, true, false, not, ◌&&◌, ◌||◌, eqb, List, [], ◌∷◌, ◌++◌, Option, Some, None, length, take, refl, sym, ap, ◌∙◌, subst, arith, ◌⊎◌, inl, inr}
+use Rattle.std.proofs.lemmas.List.{append_assoc, length-append, append_cancel_left, take_at}
+use Rattle.std.proofs.lemmas.Bool.{and_parts, cases_Bool, cases_lt, eqb-true, eqb-false}
 use Rattle.sml_lexer.specs.declared.quoted.Ending.{Ending}
 use Rattle.sml_lexer.specs.declared.quoted.Ending.TheVariants as ending
 use Rattle.sml_lexer.specs.declared.step.Spot.{Spot}
@@ -15,10 +15,9 @@ use Rattle.sml_lexer.specs.QuotedRead as strays
 use Rattle.sml_lexer.specs.Tokens.{Opening, FailsAt, number_of}
 use Rattle.sml_lexer.specs.Tokens as tokens
 use Rattle.sml_lexer.specs.Steps.{IsFirstAt, fault_of, closed_fault}
-use Rattle.sml_lexer.proofs.ItemLemmas.{Reads, part_is, parts_of}
 use Rattle.sml_lexer.proofs.StageLemmas.{IsWhole, Stage, short, long, stage, part_unique}
 use Rattle.sml_lexer.proofs.ConstantFaults.{Faulty, control, unknown, count, unclosed, wide, faulty}
-use Rattle.sml_lexer.proofs.QuotedReadLemmas.{stray-append, one_part}
+use Rattle.sml_lexer.proofs.QuotedReadLemmas.{stray-append}
 
 -- the opening of a string, or of a character constant
 pub data Which : List ℕ → Bool → Type 0 where
@@ -126,11 +125,12 @@ module _ (o : List ℕ) (b : Bool) (which : Which o b) (rest s : List ℕ) (ps :
       where
         end : (y : List ℕ) × (more ≡ 34 ∷ y)
         end = subst (λ d. Ends d more) closed w.ends
+
         go : (o : List ℕ) (b : Bool) → Which o b → b ≡ true → FailsAt (o ++ rest) [] BadToken
         go o b quote q = let x : false ≡ true = q in cc
         go o b hash q =
             subst (λ x. FailsAt x [] BadToken) (append_assoc (35 ∷ 34 ∷ []) s (34 ∷ end.0) ∙ ap (λ x. 35 ∷ 34 ∷ (s ++ x)) (sym end.1) ∙ ap (λ x. 35 ∷ 34 ∷ x) w.bytes_are)
-              (tokens.FailsAt.count s end.0 ps w.parts n)
+            (tokens.FailsAt.count s end.0 ps w.parts n)
 
     -- no fault at the opening has a number below 3
     module _ (one : b ≡ true → character_count ps ≡ 1) where
@@ -159,18 +159,22 @@ module _ (o : List ℕ) (b : Bool) (which : Which o b) (rest s : List ℕ) (ps :
       first_stray h k f = record {
         room = let l = ap length bytes in omega (arith, l, length-append (o ++ f.a) (f.c ∷ (f.t ++ more)), back);
         fails = subst (λ x. FailsAt (o ++ rest) x BadToken) (sym front)
-          (subst (λ x. FailsAt x (o ++ f.a) BadToken) bytes (tokens.FailsAt.control o f.a f.c (f.t ++ more) f.before (opening_of o b which) f.parts f.is f.other));
+            (subst (λ x. FailsAt x (o ++ f.a) BadToken) bytes (tokens.FailsAt.control o f.a f.c (f.t ++ more) f.before (opening_of o b which) f.parts f.is f.other));
         first = λ x why g. go x why (known x why g);
       }
         where
           inner : f.a ++ f.c ∷ (f.t ++ more) ≡ rest
           inner = sym (append_assoc f.a (f.c ∷ f.t) more) ∙ ap (λ x. x ++ more) (sym f.text) ∙ w.bytes_are
+
           bytes : o ++ f.a ++ f.c ∷ (f.t ++ more) ≡ o ++ rest
           bytes = append_assoc o f.a (f.c ∷ (f.t ++ more)) ∙ ap (λ x. o ++ x) inner
+
           back : length (o ++ f.a) ≡ length o + k
           back = let p = f.place in length-append o f.a ∙ (omega arith)
+
           front : take (length o + k) (o ++ rest) ≡ o ++ f.a
           front = ap (take (length o + k)) (sym bytes) ∙ take_at (o ++ f.a) (f.c ∷ (f.t ++ more)) (length o + k) back
+
           later : (u y : List ℕ) (qs : List Part) (d : ℕ) → AreParts u qs → is_control d ≡ true → d ≢ 10 → u ++ d ∷ y ≡ rest → k ≤ length u
           later u y qs d v l n q = by (stage f.a f.before f.parts u qs v (f.c ∷ (f.t ++ more)) (d ∷ y) (inner ∙ sym q))
             where
@@ -181,6 +185,7 @@ module _ (o : List ℕ) (b : Bool) (which : Which o b) (rest s : List ℕ) (ps :
                   let clean : has_stray rs ≡ false = right_false (has_stray qs) (has_stray rs) (sym (stray-append qs rs) ∙ ap has_stray (sym z) ∙ f.none) in
                   let nil = no_control r rs p clean (f.c ∷ (f.t ++ more)) y d l n tail in
                   let l = ap length x in let m = length-append u r in let j = ap length nil in let p = f.place in omega arith
+
           go : (x : List ℕ) (why : Trouble) → Faulty o rest ps e x why → (length o + k < length x) ⊎ ((length o + k ≡ length x) × (1 ≤ number_of why))
           go x why (control u y qs d v l n q) = let z = later u y qs d v l n q in let m = length-append o u in compare (cases_lt (length o + k) (length (o ++ u)))
             where
@@ -223,18 +228,23 @@ module _ (o : List ℕ) (b : Bool) (which : Which o b) (rest s : List ℕ) (ps :
     where
       single : (b && not (eqb (length value) 1)) ≡ false → b ≡ true → character_count ps ≡ 1
       single q t = sym counted ∙ eqb-true (length value) 1 (not_false _ (ap (λ x. x && not (eqb (length value) 1)) (sym t) ∙ q))
+
       by_stray : (b && not (eqb (length value) 1)) ≡ false → is_wide ≡ false → (p : Option ℕ) → strayed ≡ p → Right (closed_fault false false p (length o))
       by_stray q v None z = record { closed = h; narrow = of_wide ∙ v; none = no_stray s ps strayed of_stray z; one = single q }
       by_stray q v (Some k) z = first_stray o b which rest s ps e more w h (single q) (of_wide ∙ v) k (stray_at s ps strayed of_stray k z)
+
       wide_fault : (p : Option ℕ) → IsFirstAt (o ++ rest) (record { back = 0; trouble = LiteralRange }) → Right (closed_fault false true p (length o))
       wide_fault None x = x
       wide_fault (Some k) x = x
+
       count_fault : (v : Bool) (p : Option ℕ) → IsFirstAt (o ++ rest) (record { back = 0; trouble = BadToken }) → Right (closed_fault true v p (length o))
       count_fault v None x = x
       count_fault v (Some k) x = x
+
       by_wide : (b && not (eqb (length value) 1)) ≡ false → (is_wide ≡ true) ⊎ (is_wide ≡ false) → Right (closed_fault false is_wide strayed (length o))
       by_wide q (inl v) = subst (λ x. Right (closed_fault false x strayed (length o))) (sym v) (wide_fault strayed (first_wide o b which rest s ps e more w h (single q) (of_wide ∙ v)))
       by_wide q (inr v) = subst (λ x. Right (closed_fault false x strayed (length o))) (sym v) (by_stray q v strayed refl)
+
       by_count : ((b && not (eqb (length value) 1)) ≡ true) ⊎ ((b && not (eqb (length value) 1)) ≡ false) → Right (closed_fault (b && not (eqb (length value) 1)) is_wide strayed (length o))
       by_count (inl q) =
           let (t, n) = and_parts _ _ q in

@@ -1,20 +1,19 @@
 -- A clean constant in quotes is the token at its place.
-use Rattle.std.proofs.Common.{◌≡◌, ◌≢◌, ℕ, zero, suc, ◌+◌, ◌-◌, ◌<◌, ◌≤◌, Bool, true, false, not, ◌&&◌, ◌||◌, cond, eqb, ltb, List, [], ◌∷◌, ◌++◌, Option, Some, None, length, take, drop, get_or, refl, sym, ap, ◌∙◌, subst, arith, ◌⊎◌, inl, inr}
+use Rattle.std.proofs.Common.{◌≡◌, ℕ, ◌+◌, ◌≤◌, true, false, ltb, List, [], ◌∷◌, ◌++◌, Option, Some, None, length, take, drop, get_or, refl, sym, ap, ◌∙◌, subst, arith, ◌⊎◌, inl, inr}
 use Rattle.std.specs.List.{AllByRecursion, prefix_len}
-use Rattle.std.proofs.lemmas.List.{append_assoc, length-append, append-nil, append_cancel_left, take-append-drop, take_at, drop_at}
-use Rattle.std.proofs.lemmas.Bool.{and_parts, and_left, and_right, cond-true, cond-false, cases_Bool, ltb-false, ne_eqb}
+use Rattle.std.proofs.lemmas.List.{append_assoc, length-append, take_at, drop_at}
+use Rattle.std.proofs.lemmas.Bool.{and_left, and_right, cond-true, cond-false, cases_Bool, ltb-false}
 use Rattle.sml_lexer.specs.declared.plain.Found.{Found}
 use Rattle.sml_lexer.specs.declared.plain.Class.TheVariants.{Word, Symbol}
-use Rattle.sml_lexer.specs.declared.quoted.Ending.{Ending}
 use Rattle.sml_lexer.specs.declared.quoted.Ending.TheVariants as ending
 use Rattle.sml_lexer.specs.declared.reserved.Reserved.{Reserved}
 use Rattle.sml_lexer.specs.Bytes.{is_letter, is_digit, is_sign}
 use Rattle.sml_lexer.specs.Meanings.{Meaning}
 use Rattle.sml_lexer.specs.Meanings as meaning
-use Rattle.sml_lexer.specs.PlainScan.{word_of, point_at, sign_found, sign_at, plain_at}
+use Rattle.sml_lexer.specs.PlainScan.{point_at, sign_found, sign_at, plain_at}
 use Rattle.sml_lexer.specs.Quoted.{Part, AreParts, characters, has_wide, character_count}
 use Rattle.sml_lexer.specs.Quoted as quoted
-use Rattle.sml_lexer.specs.QuotedRead.{low_byte, values, has_stray, Ends}
+use Rattle.sml_lexer.specs.QuotedRead.{low_byte, values, has_stray}
 use Rattle.sml_lexer.specs.Reserved.{reserved_of}
 use Rattle.sml_lexer.specs.Spellings.{Spells}
 use Rattle.sml_lexer.specs.Spellings as spellings
@@ -22,7 +21,6 @@ use Rattle.sml_lexer.specs.Steps.{IsTokenAt}
 use Rattle.sml_lexer.specs.Tokens.{StandsAs, IsLongest, OpensMore}
 use Rattle.sml_lexer.specs.Tokens as tokens
 use Rattle.sml_lexer.proofs.RunLemmas.{run_stop}
-use Rattle.sml_lexer.proofs.FoundLemmas.{IsMost}
 use Rattle.sml_lexer.proofs.PlainLemmas.{at_sign, at_point}
 use Rattle.sml_lexer.proofs.PlainMost.{Quoted, string, character, Most, plain_most}
 use Rattle.sml_lexer.proofs.StageLemmas.{IsWhole, one_end}
@@ -41,12 +39,16 @@ hash_scan r f e = go (reserved_of (take n s)) refl
   where
     s : List ℕ
     s = 35 ∷ 34 ∷ r
+
     n : ℕ
     n = prefix_len is_sign s
+
     one : n ≡ 1
     one = ap (λ k. 1 + k) (run_stop is_sign 34 r refl)
+
     is : plain_at s ≡ Some (sign_at s)
     is = at_sign s refl refl
+
     go : (o : Option Reserved) → reserved_of (take n s) ≡ o → f.len ≡ 1
     go (Some w) k = let q : Some (record { len = n; class = Word w }) ≡ Some f = ap (λ o. Some (sign_found o n)) (sym k) ∙ sym is ∙ e in let same : record { len = n; class = Word w } ≡ f = cc in ap (λ (g : Found). g.len) (sym same) ∙ one
     go None k = let q : Some (record { len = n; class = Symbol }) ≡ Some f = ap (λ o. Some (sign_found o n)) (sym k) ∙ sym is ∙ e in let same : record { len = n; class = Symbol } ≡ f = cc in ap (λ (g : Found). g.len) (sym same) ∙ one
@@ -84,7 +86,7 @@ module _ (o rest s : List ℕ) (ps : List Part) (y : List ℕ) (w : IsWhole rest
         some = omega (arith, e);
         room = omega (arith, e, l, k, spelling_len);
         stands = subst (λ x. StandsAs (take n x) (drop n x) m) spelling_is
-          (subst (λ x. StandsAs x (drop n (o ++ s ++ 34 ∷ [] ++ y)) m) (sym (take_at (o ++ s ++ 34 ∷ []) y n (spelling_len ∙ sym e)))
+            (subst (λ x. StandsAs x (drop n (o ++ s ++ 34 ∷ [] ++ y)) m) (sym (take_at (o ++ s ++ 34 ∷ []) y n (spelling_len ∙ sym e)))
             (subst (λ x. StandsAs (o ++ s ++ 34 ∷ []) x m) (sym (drop_at (o ++ s ++ 34 ∷ []) y n (spelling_len ∙ sym e))) st));
         allowed = a;
       }
@@ -94,14 +96,16 @@ module _ (o rest s : List ℕ) (ps : List Part) (y : List ℕ) (w : IsWhole rest
   same_constant t more qs a e = (one_end rest s ps ending.Closed (34 ∷ y) w t qs a (34 ∷ more) e ending.Closed (more, refl)).1
 
 pub string_token : (rest s : List ℕ) (ps : List Part) (y : List ℕ) → IsWhole rest s ps ending.Closed (34 ∷ y) → IsClean false ps ending.Closed → (value : List ℕ) → values ps ≡ value
-  → (n : ℕ) → n ≡ length s + 2 → IsTokenAt (34 ∷ rest) n (meaning.text value)
+    → (n : ℕ) → n ≡ length s + 2 → IsTokenAt (34 ∷ rest) n (meaning.text value)
 string_token rest s ps y w c value v n e =
     at_place (34 ∷ []) rest s ps y w n (meaning.text value) (omega (arith, e)) (record { spelled = spelled; longest = longest; whole = whole }) tt
   where
     clean : Clean ps
     clean = clean_parts ps c.narrow c.none
+
     spelled : Spells (34 ∷ s ++ 34 ∷ []) (meaning.text value)
     spelled = subst (λ x. Spells (34 ∷ s ++ 34 ∷ []) (meaning.text x)) v (spellings.Spells.text s (values ps) (subst (AreParts s) clean.0 w.parts) clean.1)
+
     by : (t more : List ℕ) (m : Meaning) → Quoted t m → t ++ more ≡ 34 ∷ rest → length t ≤ length (34 ∷ s ++ 34 ∷ [])
     by t more m (string u codes a _) q =
         let r : u ++ 34 ∷ more ≡ rest = sym (append_assoc u (34 ∷ []) more) ∙ tail q in
@@ -111,12 +115,14 @@ string_token rest s ps y w c value v n e =
         tail : {x z : List ℕ} → 34 ∷ x ≡ 34 ∷ z → x ≡ z
         tail q = cc
     by t more m (character u k a _) q = absurd (let h = ap (λ (x : List ℕ). get_or x 0 0) q in omega (arith, h))
+
     longest : IsLongest (34 ∷ s ++ 34 ∷ []) y
     longest t more m h q = go (plain_most t m h more)
       where
         go : Quoted t m ⊎ Most t m more → length t ≤ length (34 ∷ s ++ 34 ∷ [])
         go (inl z) = by t more m z (q ∙ spelling_is (34 ∷ []) rest s ps y w)
         go (inr z) = let x : Some z.answer ≡ None = sym z.is ∙ ap plain_at (q ∙ spelling_is (34 ∷ []) rest s ps y w) ∙ quote_scan rest in cc
+
     whole : ¬ OpensMore (34 ∷ s ++ 34 ∷ []) y
     whole h = not_opens _ y h refl
       where
@@ -125,18 +131,22 @@ string_token rest s ps y w c value v n e =
         not_opens t y (tokens.OpensMore.constant z) q = omega arith
 
 pub character_token : (rest s : List ℕ) (ps : List Part) (y : List ℕ) → IsWhole rest s ps ending.Closed (34 ∷ y) → IsClean true ps ending.Closed → (k : ℕ) → values ps ≡ k ∷ []
-  → (n : ℕ) → n ≡ length s + 3 → IsTokenAt (35 ∷ 34 ∷ rest) n (meaning.character k)
+    → (n : ℕ) → n ≡ length s + 3 → IsTokenAt (35 ∷ 34 ∷ rest) n (meaning.character k)
 character_token rest s ps y w c k v n e =
     at_place (35 ∷ 34 ∷ []) rest s ps y w n (meaning.character k) (omega (arith, e)) (record { spelled = spelled; longest = longest; whole = whole }) tt
   where
     clean : Clean ps
     clean = clean_parts ps c.narrow c.none
+
     parts : AreParts s (characters (k ∷ []))
     parts = subst (AreParts s) (clean.0 ∙ ap characters v) w.parts
+
     small : AllByRecursion (λ n. n ≤ 255) (k ∷ [])
     small = subst (λ x. AllByRecursion (λ n. n ≤ 255) x) v clean.1
+
     spelled : Spells (35 ∷ 34 ∷ s ++ 34 ∷ []) (meaning.character k)
     spelled = spellings.Spells.character s k parts small.0
+
     by : (t more : List ℕ) (m : Meaning) → Quoted t m → t ++ more ≡ 35 ∷ 34 ∷ rest → length t ≤ length (35 ∷ 34 ∷ s ++ 34 ∷ [])
     by t more m (string u codes a _) q = absurd (let h = ap (λ (x : List ℕ). get_or x 0 0) q in omega (arith, h))
     by t more m (character u d a _) q =
@@ -146,6 +156,7 @@ character_token rest s ps y w c k v n e =
       where
         tail : {x z : List ℕ} → 35 ∷ 34 ∷ x ≡ 35 ∷ 34 ∷ z → x ≡ z
         tail q = cc
+
     longest : IsLongest (35 ∷ 34 ∷ s ++ 34 ∷ []) y
     longest t more m h q = go (plain_most t m h more)
       where
@@ -155,6 +166,7 @@ character_token rest s ps y w c k v n e =
             let f = hash_scan rest z.answer (sym (ap plain_at (q ∙ spelling_is (35 ∷ 34 ∷ []) rest s ps y w)) ∙ z.is) in
             let b = z.most.bound in
             omega arith
+
     whole : ¬ OpensMore (35 ∷ 34 ∷ s ++ 34 ∷ []) y
     whole h = not_opens _ y h refl
       where

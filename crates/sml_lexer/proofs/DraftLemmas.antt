@@ -1,8 +1,8 @@
 -- A file is read step by step.
-use Rattle.std.proofs.Common.{◌≡◌, ◌≢◌, ℕ, zero, suc, ◌+◌, ◌-◌, ◌<◌, ◌≤◌, List, [], ◌∷◌, ◌++◌, Option, Some, None, length, take, drop, refl, sym, ap, ◌∙◌, subst, arith, ◌⊎◌, inl, inr, vec_len}
+use Rattle.std.proofs.Common.{◌≡◌, ℕ, zero, suc, ◌+◌, ◌<◌, ◌≤◌, List, [], ◌∷◌, ◌++◌, Option, Some, None, length, take, drop, refl, sym, ap, ◌∙◌, subst, arith, ◌⊎◌, inl, inr, vec_len}
 use Rattle.std.specs.Prelude.{slice_get, option_map}
 use Rattle.std.specs.List.{fold}
-use Rattle.std.proofs.lemmas.List.{append_assoc, length-append, append-nil, take-append-drop, length-take-le, length-drop, drop-drop, take_all, drop_all}
+use Rattle.std.proofs.lemmas.List.{append_assoc, append-nil, take-append-drop, length-take-le, length-drop, drop-drop, take_all, drop_all}
 use Rattle.smlc_base.specs.declared.place.Place.{Place}
 use Rattle.sml_lexer.specs.declared.draft.Draft.{Draft}
 use Rattle.sml_lexer.specs.declared.step.Kind.{Kind}
@@ -14,14 +14,13 @@ use Rattle.sml_lexer.specs.declared.token.TokenKind.TheVariants.{Word, Id, Symbo
 use Rattle.sml_lexer.specs.Gaps.{IsGap}
 use Rattle.sml_lexer.specs.Meanings.{Meaning}
 use Rattle.sml_lexer.specs.Meanings as meaning
-use Rattle.sml_lexer.specs.Numbers.{is_numeral}
 use Rattle.sml_lexer.specs.Places.{place_behind}
 use Rattle.sml_lexer.specs.PlaceScan.{next_place}
 use Rattle.sml_lexer.specs.Shown.{meaning_in, Shows, ShowAll, Extends}
 use Rattle.sml_lexer.specs.Shown as shown
 use Rattle.sml_lexer.specs.Steps.{IsGapAt, IsTokenAt, IsFirstAt, kind_meaning}
-use Rattle.sml_lexer.specs.Drafts.{AddsToken, IsFileOk, IsFileErr, refusal_of}
-use Rattle.sml_lexer.specs.Tokens.{Lexeme, StandsAs, IsAllowed, AreTokens, FailsAt, Fault, IsFirstFault, number_of}
+use Rattle.sml_lexer.specs.Drafts.{AddsToken, IsFileOk, refusal_of}
+use Rattle.sml_lexer.specs.Tokens.{Lexeme, StandsAs, IsAllowed, Fault, IsFirstFault, number_of}
 use Rattle.sml_lexer.proofs.FileLemmas.{Reached, start, gap, token, read_whole, read_fault}
 use Rattle.sml_lexer.proofs.PlaceLemmas.{place-append, place_bounds}
 use Rattle.sml_lexer.proofs.WordLemmas.{take_plus}
@@ -117,15 +116,15 @@ module _ (bytes : List ℕ) (at len : ℕ) (in_range : at ≤ length bytes) (roo
   reached_gap : (ts : List Lexeme) → Reached bytes (take at bytes) (drop at bytes) ts → IsGap (take len (drop at bytes)) → Reached bytes (take (at + len) bytes) (drop (at + len) bytes) ts
   reached_gap ts r g =
       subst (λ x. Reached bytes x (drop (at + len) bytes) ts) (sym front_is)
-        (subst (λ x. Reached bytes (take at bytes ++ take len (drop at bytes)) x ts) (sym rest_is)
-          (gap (take at bytes) (take len (drop at bytes)) (drop len (drop at bytes)) ts (subst (λ x. Reached bytes (take at bytes) x ts) (sym (take-append-drop len (drop at bytes))) r) g))
+      (subst (λ x. Reached bytes (take at bytes ++ take len (drop at bytes)) x ts) (sym rest_is)
+      (gap (take at bytes) (take len (drop at bytes)) (drop len (drop at bytes)) ts (subst (λ x. Reached bytes (take at bytes) x ts) (sym (take-append-drop len (drop at bytes))) r) g))
 
   reached_token : (ts : List Lexeme) (m : Meaning) → Reached bytes (take at bytes) (drop at bytes) ts → StandsAs (take len (drop at bytes)) (drop len (drop at bytes)) m → IsAllowed m
-    → Reached bytes (take (at + len) bytes) (drop (at + len) bytes) (ts ++ record { before = take at bytes; text = take len (drop at bytes); meaning = m } ∷ [])
+      → Reached bytes (take (at + len) bytes) (drop (at + len) bytes) (ts ++ record { before = take at bytes; text = take len (drop at bytes); meaning = m } ∷ [])
   reached_token ts m r st al =
       subst (λ x. Reached bytes x (drop (at + len) bytes) (ts ++ record { before = take at bytes; text = take len (drop at bytes); meaning = m } ∷ [])) (sym front_is)
-        (subst (λ x. Reached bytes (take at bytes ++ take len (drop at bytes)) x (ts ++ record { before = take at bytes; text = take len (drop at bytes); meaning = m } ∷ [])) (sym rest_is)
-          (token (take at bytes) (take len (drop at bytes)) (drop len (drop at bytes)) m ts (subst (λ x. Reached bytes (take at bytes) x ts) (sym (take-append-drop len (drop at bytes))) r) st al))
+      (subst (λ x. Reached bytes (take at bytes ++ take len (drop at bytes)) x (ts ++ record { before = take at bytes; text = take len (drop at bytes); meaning = m } ∷ [])) (sym rest_is)
+      (token (take at bytes) (take len (drop at bytes)) (drop len (drop at bytes)) m ts (subst (λ x. Reached bytes (take at bytes) x ts) (sym (take-append-drop len (drop at bytes))) r) st al))
 
 module _ (file : ℕ) (bytes : List ℕ) (at : ℕ) (place : Place) (old now : Draft) (d : IsDrafted file bytes at place old now) where
   pub drafted_gap : (len : ℕ) (next : Place) → IsGapAt (drop at bytes) len → next ≡ fold next_place place (take len (drop at bytes)) → IsDrafted file bytes (at + len) next old now
@@ -147,8 +146,8 @@ module _ (file : ℕ) (bytes : List ℕ) (at : ℕ) (place : Place) (old now : D
       }
 
   pub drafted_token : (len : ℕ) (next : Place) (new : Draft) (kind : Kind) → IsTokenAt (drop at bytes) len (kind_meaning kind (take len (drop at bytes))) → next ≡ fold next_place place (take len (drop at bytes))
-    → AddsToken now new kind place at (take len (drop at bytes)) → Extends now.names new.names → Extends now.texts.items new.texts.items
-    → vec_len new.tokens ≤ vec_len now.tokens + 1 → length new.names ≤ length now.names + 1 → vec_len new.texts ≤ vec_len now.texts + 1 → IsDrafted file bytes (at + len) next old new
+      → AddsToken now new kind place at (take len (drop at bytes)) → Extends now.names new.names → Extends now.texts.items new.texts.items
+      → vec_len new.tokens ≤ vec_len now.tokens + 1 → length new.names ≤ length now.names + 1 → vec_len new.texts ≤ vec_len now.texts + 1 → IsDrafted file bytes (at + len) next old new
   drafted_token len next new kind g e a names texts tc nc xc =
       let t = d.token_count in let n = d.name_count in let x = d.text_count in let some = g.some in
       record {
@@ -159,7 +158,7 @@ module _ (file : ℕ) (bytes : List ℕ) (at : ℕ) (place : Place) (old now : D
         tokens = d.tokens ++ a.token ∷ [];
         items = a.items ∙ ap (λ z. z ++ a.token ∷ []) d.items ∙ append_assoc old.tokens.items d.tokens (a.token ∷ []);
         shown = shown_push file new.names new.texts.items _ _ (shown_extends file _ _ _ _ names texts _ _ d.shown) a.token lexeme
-          (record { kind = a.kind_is; place = a.place_is ∙ d.place_is; at = a.at_is ∙ sym (length-take-le at bytes d.in_range); len = a.len_is; numeral = a.numeral_is });
+            (record { kind = a.kind_is; place = a.place_is ∙ d.place_is; at = a.at_is ∙ sym (length-take-le at bytes d.in_range); len = a.len_is; numeral = a.numeral_is });
         names = extends-trans _ _ _ d.names names;
         texts = extends-trans _ _ _ d.texts texts;
         token_count = omega arith;
@@ -191,16 +190,17 @@ module _ (file : ℕ) (bytes : List ℕ) (at : ℕ) (place : Place) (old now : D
 
   -- the first fault of the place is the file's
   pub drafted_fault : (spot : Spot) (next : Place) → IsFirstAt (drop at bytes) spot → next ≡ fold next_place place (take spot.back (drop at bytes))
-    → (f : Fault) × IsFirstFault bytes f × (refusal_of spot.trouble next ≡ refusal_of f.why (place_behind file f.at))
+      → (f : Fault) × IsFirstFault bytes f × (refusal_of spot.trouble next ≡ refusal_of f.why (place_behind file f.at))
   drafted_fault spot next g e =
       let back = take spot.back (drop at bytes) in
       let l = length-take-le spot.back (drop at bytes) g.room in
-      let where_is = place_on bytes at spot.back d.in_range g.room file place next d.place_is e in
-      (record { at = take at bytes ++ back; why = spot.trouble },
+      let where_is = place_on bytes at spot.back d.in_range g.room file place next d.place_is e in (
+        record { at = take at bytes ++ back; why = spot.trouble },
         read_fault bytes (take at bytes) (drop at bytes) d.lexemes d.reached back spot.trouble g.fails (λ k v h. first k v l (g.first k v h)),
-        ap (refusal_of spot.trouble) (where_is ∙ ap (place_behind file) (front_is bytes at spot.back d.in_range g.room)))
+        ap (refusal_of spot.trouble) (where_is ∙ ap (place_behind file) (front_is bytes at spot.back d.in_range g.room)),
+      )
     where
       first : (k : List ℕ) (v : Trouble) → length (take spot.back (drop at bytes)) ≡ spot.back → (spot.back < length k) ⊎ ((spot.back ≡ length k) × (number_of spot.trouble ≤ number_of v))
-        → (length (take spot.back (drop at bytes)) < length k) ⊎ ((length (take spot.back (drop at bytes)) ≡ length k) × (number_of spot.trouble ≤ number_of v))
+          → (length (take spot.back (drop at bytes)) < length k) ⊎ ((length (take spot.back (drop at bytes)) ≡ length k) × (number_of spot.trouble ≤ number_of v))
       first k v l (inl h) = inl (omega arith)
       first k v l (inr h) = inr (l ∙ h.0, h.1)

@@ -1,6 +1,6 @@
 -- A file has one list of tokens, or faults.
-use Rattle.std.proofs.Common.{◌≡◌, ◌≢◌, ℕ, zero, suc, ◌+◌, ◌<◌, ◌≤◌, List, [], ◌∷◌, ◌++◌, length, take, drop, refl, sym, ap, ◌∙◌, subst, arith, ◌⊎◌, inl, inr}
-use Rattle.std.proofs.lemmas.List.{append_assoc, length-append, append-nil, append_cancel_left, take_at, drop_at, take-append-drop}
+use Rattle.std.proofs.Common.{◌≡◌, ◌≢◌, ℕ, ◌+◌, ◌<◌, ◌≤◌, List, [], ◌∷◌, ◌++◌, length, refl, sym, ap, ◌∙◌, subst, arith, ◌⊎◌, inl, inr}
+use Rattle.std.proofs.lemmas.List.{append_assoc, length-append, append-nil}
 use Rattle.sml_lexer.specs.declared.step.Trouble.{Trouble}
 use Rattle.sml_lexer.specs.Gaps.{IsGap}
 use Rattle.sml_lexer.specs.Meanings.{Meaning}
@@ -13,7 +13,7 @@ pub data Reached (file : List ℕ) : List ℕ → List ℕ → List Lexeme → T
   start : Reached file [] file []
   gap : (before s rest : List ℕ) (ts : List Lexeme) → Reached file before (s ++ rest) ts → IsGap s → Reached file (before ++ s) rest ts
   token : (before s rest : List ℕ) (m : Meaning) (ts : List Lexeme) → Reached file before (s ++ rest) ts → StandsAs s rest m → IsAllowed m
-    → Reached file (before ++ s) rest (ts ++ record { before = before; text = s; meaning = m } ∷ [])
+      → Reached file (before ++ s) rest (ts ++ record { before = before; text = s; meaning = m } ∷ [])
 
 -- what holds behind a place that was reached holds behind the file's start
 pub behind : (P : List ℕ → List ℕ → Type 0) (file b a : List ℕ) (ts : List Lexeme) → Reached file b a ts → (us : List Lexeme) → Behind P b a us → Behind P [] file (ts ++ us)
@@ -21,7 +21,7 @@ behind P file b a ts start us h = h
 behind P file b a ts (gap before s rest us r g) vs h = behind P file before (s ++ rest) us r vs (tokens.Behind.gap before s rest vs g h)
 behind P file b a ts (token before s rest m us r st al) vs h =
     subst (Behind P [] file) (sym (append_assoc us (record { before = before; text = s; meaning = m } ∷ []) vs))
-      (behind P file before (s ++ rest) us r (record { before = before; text = s; meaning = m } ∷ vs) (tokens.Behind.token before s rest m vs st al h))
+    (behind P file before (s ++ rest) us r (record { before = before; text = s; meaning = m } ∷ vs) (tokens.Behind.token before s rest m vs st al h))
 
 -- P holds only where no gap and no token stands
 pub record IsStuck (P : List ℕ → List ℕ → Type 0) : Type 0 where
@@ -37,13 +37,15 @@ module _ (P : List ℕ → List ℕ → Type 0) (stuck : IsStuck P) where
   past_gap b a us (tokens.Behind.token b' t r m vs st al k) s q g e = absurd (gap_token s q t r m g st (sym e))
 
   past_token : (b a : List ℕ) (us : List Lexeme) → Behind P b a us → (s q : List ℕ) (m : Meaning) → StandsAs s q m → IsAllowed m → a ≡ s ++ q
-    → (vs : List Lexeme) × (us ≡ record { before = b; text = s; meaning = m } ∷ vs) × Behind P (b ++ s) q vs
+      → (vs : List Lexeme) × (us ≡ record { before = b; text = s; meaning = m } ∷ vs) × Behind P (b ++ s) q vs
   past_token b a us (tokens.Behind.here b' a' p) s q m st al e = absurd (stuck.no_token b a s q m p st al e)
   past_token b a us (tokens.Behind.gap b' t r vs h k) s q m st al e = absurd (gap_token t r s q m h st e)
   past_token b a us (tokens.Behind.token b' t r n vs sn an k) s q m st al e =
-      let u = token_unique t r s q n m sn st e in
-      (vs, ap (λ x. record { before = b; text = x; meaning = n } ∷ vs) u.0 ∙ ap (λ x. record { before = b; text = s; meaning = x } ∷ vs) u.2,
-        subst (λ x. Behind P (b ++ x) q vs) u.0 (subst (λ x. Behind P (b ++ t) x vs) u.1 k))
+      let u = token_unique t r s q n m sn st e in (
+        vs,
+        ap (λ x. record { before = b; text = x; meaning = n } ∷ vs) u.0 ∙ ap (λ x. record { before = b; text = s; meaning = x } ∷ vs) u.2,
+        subst (λ x. Behind P (b ++ x) q vs) u.0 (subst (λ x. Behind P (b ++ t) x vs) u.1 k),
+      )
 
   -- each place that was reached lies on the way to where P holds
   pub follow : (file : List ℕ) (us : List Lexeme) → Behind P [] file us → (b a : List ℕ) (ts : List Lexeme) → Reached file b a ts → (vs : List Lexeme) × (us ≡ ts ++ vs) × Behind P b a vs
@@ -88,8 +90,8 @@ read_whole file ts b a r e = subst (AreTokens file) (append-nil ts) (behind (λ 
 
 -- a fault at a place that was reached is the file's first one
 pub read_fault : (file b a : List ℕ) (ts : List Lexeme) → Reached file b a ts → (back : List ℕ) (why : Trouble) → FailsAt a back why
-  → ((k : List ℕ) (v : Trouble) → FailsAt a k v → (length back < length k) ⊎ ((length back ≡ length k) × (number_of why ≤ number_of v)))
-  → IsFirstFault file (record { at = b ++ back; why = why })
+    → ((k : List ℕ) (v : Trouble) → FailsAt a k v → (length back < length k) ⊎ ((length back ≡ length k) × (number_of why ≤ number_of v)))
+    → IsFirstFault file (record { at = b ++ back; why = why })
 unfolding Faulted
 read_fault file b a ts r back why f least = record {
   fails = tokens.Fails.fails (b ++ back) why (ts ++ []) (behind _ file b a ts r [] (tokens.Behind.here b a (back, refl, f)));
@@ -101,11 +103,13 @@ read_fault file b a ts r back why f least = record {
       where
         size : length g.at ≡ length b + length p.0
         size = ap length p.1 ∙ ap (λ z. length (z ++ p.0)) eb ∙ length-append b p.0
+
         later : (length back < length p.0) ⊎ ((length back ≡ length p.0) × (number_of why ≤ number_of g.why)) → Precedes (record { at = b ++ back; why = why }) g
         later (inl l) = inl (omega (arith, length-append b back, size))
         later (inr l) = inr (omega (arith, length-append b back, size, l.0), l.1)
     at_place g x y vs (tokens.Behind.gap b' s q us h k) eb ea = absurd (fault_gap a back why f s q h (sym ea))
     at_place g x y vs (tokens.Behind.token b' s q m us st al k) eb ea = absurd (fault_token a back why f s q m st al (sym ea))
+
     go : (g : Fault) → Fails file g → Precedes (record { at = b ++ back; why = why }) g
     go g (tokens.Fails.fails at v us h) = let x = follow (Faulted g) (faulted_stuck g) file us h b a ts r in at_place g b a x.0 x.2 refl refl
 

@@ -1,8 +1,8 @@
 -- The files are read one by one.
-use Rattle.std.proofs.Common.{◌≡◌, ◌≢◌, ℕ, zero, suc, ◌+◌, ◌-◌, ◌<◌, ◌≤◌, Bool, true, false, ◌&&◌, ltb, List, [], ◌∷◌, ◌++◌, Option, Some, None, length, take, drop, get_or, map, refl, sym, ap, ◌∙◌, subst, arith, ◌⊎◌, inl, inr, vec_len, ℤ, pos, neg_ℤ, ◌≤ℤ◌, ◌^◌}
+use Rattle.std.proofs.Common.{◌≡◌, ℕ, zero, suc, ◌+◌, ◌-◌, ◌<◌, ◌≤◌, true, ◌&&◌, ltb, List, [], ◌∷◌, ◌++◌, Option, Some, None, length, take, drop, get_or, map, refl, sym, ap, ◌∙◌, subst, arith, ℤ, pos, neg_ℤ, ◌≤ℤ◌, ◌^◌}
 use Rattle.std.specs.Prelude.{slice_get, option_map, int_le}
-use Rattle.std.specs.List.{AllByRecursion, list_all}
-use Rattle.std.proofs.lemmas.List.{append_assoc, length-append, append-nil, take_more, map-append, length-map, take-append-drop, drop_more, take_all, length-take-le}
+use Rattle.std.specs.List.{AllByRecursion}
+use Rattle.std.proofs.lemmas.List.{append_assoc, append-nil, take_more, map-append, length-map, take-append-drop, drop_more, length-take-le}
 use Rattle.std.proofs.lemmas.Option.{slice_get_within}
 use Rattle.std.proofs.lemmas.Bool.{and_parts, and_from, lt-ltb}
 use Rattle.std.proofs.lemmas.Int.{ints}
@@ -56,12 +56,12 @@ files_extend names names' texts texts' a b n fs ts (files.AreFiles.file m f gs u
     files.AreFiles.file m f gs us vs ls h (shown_extends m names names' texts texts' a b us ls s) (files_extend names names' texts texts' a b (suc m) gs vs r)
 
 pub files_push : (names texts : List (List ℕ)) (n : ℕ) (fs : List (List ℕ)) (ts : List Token) → AreFiles names texts n fs ts → (m : ℕ) → m ≡ n + length fs → (f : List ℕ) (us : List Token) (ls : List Lexeme) → AreTokens f ls → ShowAll m names texts us ls
-  → AreFiles names texts n (fs ++ f ∷ []) (ts ++ us)
+    → AreFiles names texts n (fs ++ f ∷ []) (ts ++ us)
 files_push names texts n fs ts (files.AreFiles.none k) m e f us ls h s =
     subst (AreFiles names texts n (f ∷ [])) (append-nil us) (files.AreFiles.file n f [] us [] ls h (subst (λ x. ShowAll x names texts us ls) (let q : m ≡ n = omega arith in q) s) (files.AreFiles.none (suc n)))
 files_push names texts n fs ts (files.AreFiles.file k g gs ws vs ms h' s' r) m e f us ls h s =
     subst (AreFiles names texts n ((g ∷ gs) ++ f ∷ [])) (sym (append_assoc ws vs us))
-      (files.AreFiles.file n g (gs ++ f ∷ []) ws (vs ++ us) ms h' s' (files_push names texts (suc n) gs vs r m (omega arith) f us ls h s))
+    (files.AreFiles.file n g (gs ++ f ∷ []) ws (vs ++ us) ms h' s' (files_push names texts (suc n) gs vs r m (omega arith) f us ls h s))
 
 pub end_push : (p : Place) (n : ℕ) (fs : List (List ℕ)) (f : List ℕ) (m : ℕ) → m ≡ n + length fs → end_of p n (fs ++ f ∷ []) ≡ place_behind m f
 end_push p n [] f m e = ap (λ k. place_behind k f) (let q : n ≡ m = omega arith in q)
@@ -81,7 +81,7 @@ pub no_progress : (names texts : List (List ℕ)) (ts : List Token) → ts ≡ [
 no_progress names texts ts e = record { are = subst (AreFiles names texts 1 []) (sym e) (files.AreFiles.none 1); end_is = refl }
 
 pub more_progress : (fs : List (List ℕ)) (names texts names' texts' : List (List ℕ)) (ts us all : List Token) (end : Place) → IsProgress fs names texts ts end → Extends names names' → Extends texts texts' → (f : List ℕ) (m : ℕ) → m ≡ length fs + 1
-  → (ls : List Lexeme) → AreTokens f ls → ShowAll m names' texts' us ls → all ≡ ts ++ us → (next : Place) → next ≡ place_behind m f → IsProgress (fs ++ f ∷ []) names' texts' all next
+    → (ls : List Lexeme) → AreTokens f ls → ShowAll m names' texts' us ls → all ≡ ts ++ us → (next : Place) → next ≡ place_behind m f → IsProgress (fs ++ f ∷ []) names' texts' all next
 more_progress fs names texts names' texts' ts us all end p a b f m e ls h s ai next ne = record {
   are = subst (AreFiles names' texts' 1 (fs ++ f ∷ [])) (sym ai) (files_push names' texts' 1 fs ts (files_extend names names' texts texts' a b 1 fs ts p.are) m (omega arith) f us ls h s);
   end_is = ne ∙ sym (end_push (record { file = 0; line = 1; col = 1 }) 1 fs f m (omega arith));
@@ -155,14 +155,14 @@ too_long_there f xs i h a b =
     let more = total_more f xs i x.0 h x.1 in
     let count : length (map f (take i xs)) ≡ i = length-map (take i xs) f ∙ length-take-le i xs (omega arith) in
     subst (λ n. IsRefusal (map f xs) (refusal.TooLong (record { file = n + 1; line = 1; col = 1 }))) count
-      (files.IsRefusal.too_long (map f (take i xs)) (f x.0) (map f (drop (i + 1) xs)) (split_files f xs i x.0 h x.1) a (omega (arith, more)))
+    (files.IsRefusal.too_long (map f (take i xs)) (f x.0) (map f (drop (i + 1) xs)) (split_files f xs i x.0 h x.1) a (omega (arith, more)))
 
 pub fault_there : {V : Type 0} (f : V → List ℕ) (xs : List V) (i : ℕ) (x : V) → i < length xs → x ≡ get_or xs i x → total (map f xs) ≤ limit → AllByRecursion HasTokens (map f (take i xs)) → (g : Fault) → IsFirstFault (f x) g
-  → IsRefusal (map f xs) (refusal_of g.why (place_behind (i + 1) g.at))
+    → IsRefusal (map f xs) (refusal_of g.why (place_behind (i + 1) g.at))
 fault_there f xs i x h e small all g first =
     let count : length (map f (take i xs)) ≡ i = length-map (take i xs) f ∙ length-take-le i xs (omega arith) in
     subst (λ n. IsRefusal (map f xs) (refusal_of g.why (place_behind (n + 1) g.at))) count
-      (files.IsRefusal.fault (map f (take i xs)) (f x) (map f (drop (i + 1) xs)) g (split_files f xs i x h e) small all first)
+    (files.IsRefusal.fault (map f (take i xs)) (f x) (map f (drop (i + 1) xs)) g (split_files f xs i x h e) small all first)
 
 pub count_there : {V : Type 0} (f : V → List ℕ) (xs : List V) (i : ℕ) → i < length xs → i + 1 ≡ length (map f (take i xs)) + 1
 count_there f xs i h = let count : length (map f (take i xs)) ≡ i = length-map (take i xs) f ∙ length-take-le i xs (omega arith) in omega arith

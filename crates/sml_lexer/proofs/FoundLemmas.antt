@@ -1,26 +1,25 @@
 -- Words, symbols and type variables that the scan finds are spellings, and the longest.
-use Rattle.std.proofs.Common.{◌≡◌, ◌≢◌, ℕ, zero, suc, ◌+◌, ◌-◌, ◌<◌, ◌≤◌, Bool, true, false, cond, eqb, List, [], ◌∷◌, ◌++◌, Option, Some, None, length, take, drop, get_or, refl, sym, ap, ◌∙◌, subst, arith, ◌⊎◌, inl, inr}
+use Rattle.std.proofs.Common.{◌≡◌, ◌≢◌, ℕ, suc, ◌+◌, ◌≤◌, true, cond, eqb, List, [], ◌∷◌, ◌++◌, Option, Some, None, length, take, drop, get_or, refl, sym, ap, ◌∙◌, subst, arith}
 use Rattle.std.specs.List.{prefix_len, list_all}
-use Rattle.std.proofs.lemmas.List.{append_assoc, length-append, take-append-drop, length-take-le, take_at, drop_at, length-drop, append-nil, take_all}
+use Rattle.std.proofs.lemmas.List.{append_assoc, length-append, take_at, drop_at, length-drop}
 use Rattle.std.proofs.lemmas.List.Sums.{prefix_len-le-length}
-use Rattle.std.proofs.lemmas.Bool.{and_parts, and_from, eqb-true, cond-true, cond-false, eq-eqb, ne_eqb, cases_Bool, cases_eq}
+use Rattle.std.proofs.lemmas.Bool.{and_from, cond-true, cond-false, eq-eqb, ne_eqb}
 use Rattle.sml_lexer.specs.declared.plain.Found.{Found}
-use Rattle.sml_lexer.specs.declared.plain.Class.{Class}
-use Rattle.sml_lexer.specs.declared.plain.Class.TheVariants.{Word, Id, Symbol, Long, TyVar}
-use Rattle.sml_lexer.specs.Bytes.{is_letter, is_digit, is_alphanumeric, is_sign}
+use Rattle.sml_lexer.specs.declared.plain.Class.TheVariants.{Id, Long, TyVar}
+use Rattle.sml_lexer.specs.Bytes.{is_letter, is_alphanumeric, is_sign}
 use Rattle.sml_lexer.specs.Classified.{meaning_of}
 use Rattle.sml_lexer.specs.Meanings.{Meaning}
 use Rattle.sml_lexer.specs.Meanings as meaning
 use Rattle.sml_lexer.specs.Numbers.{AreSome}
 use Rattle.sml_lexer.specs.declared.reserved.Reserved.{Reserved}
-use Rattle.sml_lexer.specs.Reserved.{spelling, IsReserved, reserved_of}
+use Rattle.sml_lexer.specs.Reserved.{spelling, reserved_of}
 use Rattle.sml_lexer.specs.Spellings.{Spells, IsAlphanumeric, IsTypeVariable, IsIdentifier, IsSymbol, IsAfterDot, IsLong}
 use Rattle.sml_lexer.specs.Spellings as spellings
 use Rattle.sml_lexer.specs.PlainScan.{dots, long_len, word_found, word_at, sign_found, sign_at}
-use Rattle.sml_lexer.proofs.RunLemmas.{run-append, run_stop, run_whole, run_all, run_front, run_take}
+use Rattle.sml_lexer.proofs.RunLemmas.{run-append, run_whole, run_take}
 use Rattle.sml_lexer.proofs.ByteLemmas.{letter_alphanumeric}
 use Rattle.sml_lexer.proofs.ReservedLemmas.{free_from_none, none_from_free, reserved_found, reserved_is}
-use Rattle.sml_lexer.proofs.WordLemmas.{all_alphanumeric, alphanumeric_front, sign_front, all_signs, some_alphanumeric, some_signs, dot_stops, take_plus, DotsAre, nothing, some, dots_are, dots_most}
+use Rattle.sml_lexer.proofs.WordLemmas.{all_alphanumeric, alphanumeric_front, sign_front, all_signs, dot_stops, take_plus, DotsAre, nothing, some, dots_are, dots_most}
 
 -- a spelling at the front
 pub record IsFound (s : List ℕ) (f : Found) : Type 0 where
@@ -48,7 +47,7 @@ long_found s n d ne h i (nothing z) =
       some = omega (arith, ne);
       within = omega arith;
       spelled = subst (λ c. Spells (take (n + d) s) (meaning_of c (take (n + d) s))) (sym (cond-true _ _ _ (eq-eqb _ _ e)))
-        (spellings.Spells.identifier _ (subst (λ k. IsIdentifier (take k s)) (sym e) i));
+          (spellings.Spells.identifier _ (subst (λ k. IsIdentifier (take k s)) (sym e) i));
     }
 long_found s n d ne h i (some t nd a f c) =
     let e : n + d ≢ n = omega (arith, nd) in
@@ -57,7 +56,7 @@ long_found s n d ne h i (some t nd a f c) =
       some = omega (arith, ne);
       within = omega (arith, c);
       spelled = subst (λ c. Spells (take (n + d) s) (meaning_of c (take (n + d) s))) (sym (cond-false _ _ _ (ne_eqb _ _ e)))
-        (spellings.Spells.long _ (subst IsLong (sym (take_plus n d s h ∙ ap (λ x. take n s ++ x) f)) (spellings.IsLong.long (take n s) t i a)));
+          (spellings.Spells.long _ (subst IsLong (sym (take_plus n d s h ∙ ap (λ x. take n s ++ x) f)) (spellings.IsLong.long (take n s) t i a)));
     }
 
 pub word_is_found : (s : List ℕ) → is_letter (get_or s 0 0) ≡ true → IsFound s (word_at s)
@@ -66,10 +65,13 @@ word_is_found s l = go (reserved_of (take n s)) refl
   where
     n : ℕ
     n = prefix_len is_alphanumeric s
+
     ne : n ≢ 0
     ne = letter_run s l
+
     within : n ≤ length s
     within = prefix_len-le-length is_alphanumeric s
+
     go : (o : Option Reserved) → reserved_of (take n s) ≡ o → IsFound s (word_found o n (long_len s n))
     go (Some w) e = record { some = ne; within = within; spelled = subst (λ x. Spells x (meaning.word w)) (reserved_found (take n s) w e) (spellings.Spells.reserved w) }
     go None e = long_found s n (dots (length s) (drop n s)) ne within (record { spelled = alphanumeric_front s n l ne (omega arith); free = free_from_none _ e }) (dots_are (length s) (drop n s))
@@ -88,6 +90,7 @@ module _ (t more : List ℕ) (all : list_all is_alphanumeric t ≡ true) where
     where
       n : ℕ
       n = prefix_len is_alphanumeric (t ++ more)
+
       go : (o : Option Reserved) → reserved_of (take n (t ++ more)) ≡ o → IsMost t m (word_found o n (long_len (t ++ more) n))
       go (Some w) e = record { bound = run_covers; same = λ k. known w (ap reserved_of (sym (run_same k)) ∙ e) }
       go None e =
@@ -95,9 +98,9 @@ module _ (t more : List ℕ) (all : list_all is_alphanumeric t ≡ true) where
           record {
             bound = omega arith;
             same = λ k.
-              let z : long_len (t ++ more) n ≡ n = omega arith in
-              let q : length t ≡ n = omega arith in
-              ap (λ x. meaning_of x t) (cond-true _ _ _ (eq-eqb _ _ z)) ∙ unknown (ap reserved_of (sym (run_same q)) ∙ e);
+                let z : long_len (t ++ more) n ≡ n = omega arith in
+                let q : length t ≡ n = omega arith in
+                ap (λ x. meaning_of x t) (cond-true _ _ _ (eq-eqb _ _ z)) ∙ unknown (ap reserved_of (sym (run_same q)) ∙ e);
           }
 
 pub identifier_most : (t more : List ℕ) → IsIdentifier t → IsMost t (meaning.identifier t) (word_at (t ++ more))
@@ -106,8 +109,8 @@ identifier_most t more i = word_most t more (all_alphanumeric t i.spelled) _ (λ
 pub reserved_most : (w : Reserved) (more : List ℕ) → IsAlphanumeric (spelling w) → IsMost (spelling w) (meaning.word w) (word_at (spelling w ++ more))
 reserved_most w more h =
     word_most (spelling w) more (all_alphanumeric _ h) _
-      (λ v e. let k : Some v ≡ Some w = sym e ∙ reserved_is w in let same : v ≡ w = cc in ap (λ x. meaning.word x) same)
-      (λ e. let k : None ≡ Some w = sym e ∙ reserved_is w in cc)
+    (λ v e. let k : Some v ≡ Some w = sym e ∙ reserved_is w in let same : v ≡ w = cc in ap (λ x. meaning.word x) same)
+    (λ e. let k : None ≡ Some w = sym e ∙ reserved_is w in cc)
 
 long_word : (q t more : List ℕ) → IsIdentifier q → IsAfterDot t → (d : ℕ) × (1 + length t ≤ d) × (word_at ((q ++ 46 ∷ t) ++ more) ≡ record { len = length q + d; class = Long })
 unfolding word_at
@@ -115,16 +118,22 @@ long_word q t more i a = (d, least, is)
   where
     x : List ℕ
     x = q ++ 46 ∷ (t ++ more)
+
     d : ℕ
     d = dots (length x) (46 ∷ (t ++ more))
+
     least : 1 + length t ≤ d
     least = dots_most t a (length x) more (let e = length-append q (46 ∷ (t ++ more)) in omega (arith, e))
+
     run : prefix_len is_alphanumeric x ≡ length q
     run = run_whole is_alphanumeric q 46 (t ++ more) (all_alphanumeric q i.spelled) dot_stops
+
     free : reserved_of (take (length q) x) ≡ None
     free = ap reserved_of (take_at q (46 ∷ (t ++ more)) (length q) refl) ∙ none_from_free q i.free
+
     longer : length q + d ≢ length q
     longer = omega (arith, least)
+
     is : word_at ((q ++ 46 ∷ t) ++ more) ≡ record { len = length q + d; class = Long }
     is =
         ap word_at (append_assoc q (46 ∷ t) more)
@@ -151,8 +160,10 @@ sign_is_found s h = go (reserved_of (take n s)) refl
   where
     n : ℕ
     n = prefix_len is_sign s
+
     ne : n ≢ 0
     ne = sign_run s h
+
     go : (o : Option Reserved) → reserved_of (take n s) ≡ o → IsFound s (sign_found o n)
     go (Some w) e = record { some = ne; within = prefix_len-le-length is_sign s; spelled = subst (λ x. Spells x (meaning.word w)) (reserved_found (take n s) w e) (spellings.Spells.reserved w) }
     go None e = record { some = ne; within = prefix_len-le-length is_sign s; spelled = spellings.Spells.symbol _ (record { spelled = sign_front s n ne (omega arith); free = free_from_none _ e }) }
@@ -163,8 +174,10 @@ sign_most t more all m known unknown = go (reserved_of (take n (t ++ more))) ref
   where
     n : ℕ
     n = prefix_len is_sign (t ++ more)
+
     covers : length t ≤ n
     covers = let e = run-append is_sign t more all in omega (arith, e)
+
     go : (o : Option Reserved) → reserved_of (take n (t ++ more)) ≡ o → IsMost t m (sign_found o n)
     go (Some w) e = record { bound = covers; same = λ k. known w (ap reserved_of (sym (take_at t more n k)) ∙ e) }
     go None e = record { bound = covers; same = λ k. unknown (ap reserved_of (sym (take_at t more n k)) ∙ e) }
@@ -175,8 +188,8 @@ symbol_most t more i = sign_most t more (all_signs t i.spelled) _ (λ w e. absur
 pub reserved_sign_most : (w : Reserved) (more : List ℕ) → AreSome is_sign (spelling w) → IsMost (spelling w) (meaning.word w) (sign_at (spelling w ++ more))
 reserved_sign_most w more h =
     sign_most (spelling w) more (all_signs _ h) _
-      (λ v e. let k : Some v ≡ Some w = sym e ∙ reserved_is w in let same : v ≡ w = cc in ap (λ x. meaning.word x) same)
-      (λ e. let k : None ≡ Some w = sym e ∙ reserved_is w in cc)
+    (λ v e. let k : Some v ≡ Some w = sym e ∙ reserved_is w in let same : v ≡ w = cc in ap (λ x. meaning.word x) same)
+    (λ e. let k : None ≡ Some w = sym e ∙ reserved_is w in cc)
 
 -- type variables
 abbrev pub variable_at : List ℕ → Found

@@ -1,9 +1,8 @@
 -- The scan of a constant in quotes finds its parts.
-use Rattle.std.proofs.Common.{◌≡◌, ◌≢◌, ℕ, zero, suc, ◌+◌, ◌-◌, ◌*◌, ◌<◌, ◌≤◌, min, Bool, true, false, ◌&&◌, ◌||◌, cond, eqb, leb, ltb, List, [], ◌∷◌, ◌++◌, Option, Some, None, length, take, drop, get_or, refl, sym, ap, ◌∙◌, subst, arith, ◌⊎◌, inl, inr}
-use Rattle.std.specs.List.{prefix_len, list_all, fold}
-use Rattle.std.proofs.lemmas.List.{append_assoc, length-append, append-nil, take_at, drop_at, take-append-drop, length-take-le, get_or_at}
-use Rattle.std.proofs.lemmas.List.Sums.{prefix_len-le-length}
-use Rattle.std.proofs.lemmas.Bool.{and_parts, and_from, and_left, eqb-true, cond-true, cond-false, eq-eqb, ne_eqb, cases_eq, le-leb, lt-leb, leb-true, leb-false}
+use Rattle.std.proofs.Common.{◌≡◌, ◌≢◌, ℕ, ◌+◌, ◌-◌, ◌<◌, ◌≤◌, min, true, false, cond, eqb, List, [], ◌∷◌, ◌++◌, Some, None, length, get_or, refl, ap, ◌∙◌, arith}
+use Rattle.std.specs.List.{prefix_len, list_all}
+use Rattle.std.proofs.lemmas.List.{append_assoc, length-append, take_at, get_or_at}
+use Rattle.std.proofs.lemmas.Bool.{and_parts, and_from, cond-true, cond-false, eq-eqb, ne_eqb, le-leb}
 use Rattle.sml_lexer.specs.declared.quoted.Item.{Item}
 use Rattle.sml_lexer.specs.declared.quoted.Item.TheVariants.{Char, Gap, Control, Close, Open, Unknown}
 use Rattle.sml_lexer.specs.declared.bytes.ByteClass.{ByteClass}
@@ -15,9 +14,8 @@ use Rattle.sml_lexer.specs.Quoted.{letter_escape, IsEscape, letter, caret, decim
 use Rattle.sml_lexer.specs.Quoted as quoted
 use Rattle.sml_lexer.specs.QuotedScan.{caret_at, digits_at, gap_at, letter_or, escape_at, item_at}
 use Rattle.std.proofs.lemmas.Bool.Decides.{nat_tests}
-use Rattle.sml_lexer.proofs.RunLemmas.{run-append, run_stop, run_whole, run_all, run_front, run_take}
-use Rattle.sml_lexer.proofs.ByteLemmas.{digit_range, hexadecimal_range, digit_not_escape, space_not_escape, space_not_digit, space_range}
-
+use Rattle.sml_lexer.proofs.RunLemmas.{run-append, run_whole}
+use Rattle.sml_lexer.proofs.ByteLemmas.{digit_range, digit_not_escape, space_not_escape, space_not_digit, space_range}
 
 -- the parts that an item is, and its length, 0 for what ends a constant
 abbrev pub parts_of : Item → List Part
@@ -95,7 +93,7 @@ unfolding caret_at
 caret_is c s h k = caret_cons (c ∷ s) ∙ cond-false _ _ _ (not_empty c s) ∙ cond-true _ _ _ (and_from _ _ (le-leb 64 c h) (le-leb c 95 k))
 
 digits_is : (class : ByteClass) (base count before : ℕ) (s more : List ℕ) → length s ≡ count → list_all (in_class class) s ≡ true
-  → digits_at class base count before (s ++ more) ≡ Char (min 0x4000_0000_0000_0001 (number_of base s)) (before + count)
+    → digits_at class base count before (s ++ more) ≡ Char (min 0x4000_0000_0000_0001 (number_of base s)) (before + count)
 unfolding digits_at
 digits_is class base count before s more h k =
     let run = run-append (in_class class) s more k in

@@ -1,11 +1,11 @@
 -- What the scan of a constant in quotes answers is there.
-use Rattle.std.proofs.Common.{◌≡◌, ◌≢◌, ℕ, zero, suc, ◌+◌, ◌-◌, ◌<◌, ◌≤◌, min, Bool, true, false, ◌&&◌, cond, eqb, leb, List, [], ◌∷◌, ◌++◌, Option, Some, None, length, take, drop, get_or, replicate, refl, sym, ap, ◌∙◌, subst, arith, ◌⊎◌, inl, inr}
+use Rattle.std.proofs.Common.{◌≡◌, ◌≢◌, ℕ, zero, suc, ◌+◌, ◌-◌, ◌<◌, ◌≤◌, Bool, true, false, ◌&&◌, eqb, leb, List, [], ◌∷◌, ◌++◌, Option, Some, None, length, take, drop, get_or, replicate, refl, sym, ap, ◌∙◌, subst, arith, ◌⊎◌, inl, inr}
 use Rattle.std.specs.List.{prefix_len, list_all}
-use Rattle.std.proofs.lemmas.List.{append_assoc, length-append, append-nil, take-append-drop, length-take-le, length-drop, length-replicate, get_or-drop, drop_more, nil_from_length, take_all}
+use Rattle.std.proofs.lemmas.List.{append_assoc, length-append, append-nil, take-append-drop, length-take-le, length-replicate, drop_more, take_all}
 use Rattle.std.proofs.lemmas.List.Sums.{prefix_len-le-length}
 use Rattle.std.proofs.lemmas.Bool.{and_parts, and_from, eqb-true, eqb-false, cond-true, cond-false, eq-eqb, ne_eqb, cases_Bool, cases_eq, leb-true, leb-false, lt-leb}
 use Rattle.sml_lexer.specs.declared.quoted.Item.{Item}
-use Rattle.sml_lexer.specs.declared.quoted.Item.TheVariants.{Char, Gap, Control, Close, Open, Unknown}
+use Rattle.sml_lexer.specs.declared.quoted.Item.TheVariants.{Char, Gap, Close, Open, Unknown}
 use Rattle.sml_lexer.specs.declared.bytes.ByteClass.{ByteClass}
 use Rattle.sml_lexer.specs.declared.bytes.ByteClass.TheVariants.{Digit, Hexadecimal}
 use Rattle.sml_lexer.specs.Bytes.{is_digit, is_hexadecimal, is_space, is_control}
@@ -13,9 +13,9 @@ use Rattle.sml_lexer.specs.Classes.{in_class}
 use Rattle.sml_lexer.specs.Numbers.{AreSome, number_of}
 use Rattle.sml_lexer.specs.Quoted.{letter_escape, IsEscape, letter, caret, decimal, unicode, IsStringGap, Part, character, stray, IsPart, IsBackslashed, IsOpen, IsUnknown}
 use Rattle.sml_lexer.specs.Quoted as quoted
-use Rattle.sml_lexer.specs.QuotedScan.{caret_at, digits_at, gap_at, letter_or, escape_at, item_at}
-use Rattle.sml_lexer.proofs.RunLemmas.{run-append, run_all, run_front, run_take, run_next}
-use Rattle.sml_lexer.proofs.ItemLemmas.{parts_of, size_of, Reads, part_is, not_empty, item_backslash, item_cons, after_letter, no_letter, letter_is, caret_cons, unicode_cons, digit_cons, space_cons, decimal_small, unicode_small, capped}
+use Rattle.sml_lexer.specs.QuotedScan.{caret_at, digits_at, gap_at, escape_at, item_at}
+use Rattle.sml_lexer.proofs.RunLemmas.{run_all, run_front, run_take}
+use Rattle.sml_lexer.proofs.ItemLemmas.{size_of, Reads, part_is, not_empty, item_backslash, no_letter, letter_is, caret_cons, unicode_cons, digit_cons, space_cons, decimal_small, unicode_small, capped}
 
 -- what an item behind a backslash stands for
 pub data Found (s : List ℕ) (i : Item) : Type 0 where
@@ -60,6 +60,7 @@ module _ (class : ByteClass) (base count before : ℕ) (pre : List ℕ) (size : 
     where
       p : ℕ → Bool
       p = in_class class
+
       go : (leb count (prefix_len p s) ≡ true) ⊎ (leb count (prefix_len p s) ≡ false) → (eqb (prefix_len p s) (length s) ≡ true) ⊎ (eqb (prefix_len p s) (length s) ≡ false) → Found (pre ++ s) (digits_at class base count before s)
       go (inl h) _ =
           let enough = leb-true _ _ h in
@@ -67,10 +68,10 @@ module _ (class : ByteClass) (base count before : ℕ) (pre : List ℕ) (size : 
           let len = length-take-le count s within in
           let all = run_front p count s enough in
           code (92 ∷ (pre ++ take count s)) (drop count s) (number_of base (take count s)) (before + count)
-            (ap (λ x. 92 ∷ x) (append_assoc pre (take count s) (drop count s) ∙ ap (λ x. pre ++ x) (take-append-drop count s)))
-            (make (take count s) len all)
-            (omega (arith, length-append pre (take count s), size, len))
-            (cond-true _ _ _ h ∙ ap (λ n. Char n (before + count)) (capped _ (small (take count s) len all)))
+          (ap (λ x. 92 ∷ x) (append_assoc pre (take count s) (drop count s) ∙ ap (λ x. pre ++ x) (take-append-drop count s)))
+          (make (take count s) len all)
+          (omega (arith, length-append pre (take count s), size, len))
+          (cond-true _ _ _ h ∙ ap (λ n. Char n (before + count)) (capped _ (small (take count s) len all)))
       go (inr h) (inl e) =
           let few = leb-false _ _ h in
           let whole = eqb-true _ _ e in
@@ -78,8 +79,8 @@ module _ (class : ByteClass) (base count before : ℕ) (pre : List ℕ) (size : 
           let pad : List ℕ = replicate (count - length s) 48 in
           let len : length (s ++ pad) ≡ count = omega (arith, length-append s pad, length-replicate {A = ℕ} (count - length s) 48) in
           cut pad (replicate_some _ _ (let ne : count - length s ≢ 0 = omega arith in ne))
-            (quoted.IsBackslashed.escape _ _ (subst (λ x. IsEscape (92 ∷ x) (number_of base (s ++ pad))) (sym (append_assoc pre s pad)) (make (s ++ pad) len (list_all-append p s pad all (list_all-replicate p 48 _ zero_in)))))
-            (cond-false _ _ _ h ∙ cond-true _ _ _ e)
+          (quoted.IsBackslashed.escape _ _ (subst (λ x. IsEscape (92 ∷ x) (number_of base (s ++ pad))) (sym (append_assoc pre s pad)) (make (s ++ pad) len (list_all-append p s pad all (list_all-replicate p 48 _ zero_in)))))
+          (cond-false _ _ _ h ∙ cond-true _ _ _ e)
       go (inr h) (inr e) = unknown (cond-false _ _ _ h ∙ cond-false _ _ _ e)
 
 decimal_found : (s : List ℕ) → Found s (digits_at Digit 10 3 1 s)
@@ -109,8 +110,10 @@ gap_found c s hc = go (cases_Bool (eqb n (length t))) (cases_Bool (eqb (get_or t
   where
     t : List ℕ
     t = c ∷ s
+
     n : ℕ
     n = prefix_len is_space (c ∷ s)
+
     go : (eqb n (length t) ≡ true) ⊎ (eqb n (length t) ≡ false) → (eqb (get_or t n 0) 92 ≡ true) ⊎ (eqb (get_or t n 0) 92 ≡ false) → Found (c ∷ s) (gap_at (c ∷ s))
     go (inl e) _ =
         let whole : take n t ≡ t = ap (λ k. take k t) (eqb-true _ _ e) ∙ take_all (length t) t (omega arith) in
@@ -119,10 +122,10 @@ gap_found c s hc = go (cases_Bool (eqb n (length t))) (cases_Bool (eqb (get_or t
         let ne = eqb-false _ _ e in
         let within : n < length t = let b = prefix_len-le-length is_space (c ∷ s) in omega (arith, ne) in
         gap (92 ∷ (take n t ++ 92 ∷ [])) (drop (n + 1) t) (n + 2)
-          (ap (λ x. 92 ∷ x) (append_assoc (take n t) (92 ∷ []) (drop (n + 1) t) ∙ ap (λ x. take n t ++ x ∷ drop (n + 1) t) (sym (eqb-true _ _ h)) ∙ split_at n t within))
-          (quoted.IsStringGap.gap (take n t) (gap_front c s hc))
-          (omega (arith, length-append (take n t) (92 ∷ []), length-take-le n t (omega arith)))
-          (cond-false _ _ _ e ∙ cond-true _ _ _ h)
+        (ap (λ x. 92 ∷ x) (append_assoc (take n t) (92 ∷ []) (drop (n + 1) t) ∙ ap (λ x. take n t ++ x ∷ drop (n + 1) t) (sym (eqb-true _ _ h)) ∙ split_at n t within))
+        (quoted.IsStringGap.gap (take n t) (gap_front c s hc))
+        (omega (arith, length-append (take n t) (92 ∷ []), length-take-le n t (omega arith)))
+        (cond-false _ _ _ e ∙ cond-true _ _ _ h)
     go (inr e) (inr h) = unknown (cond-false _ _ _ e ∙ cond-false _ _ _ h)
 
 moved : (s : List ℕ) (i j : Item) → j ≡ i → Found s i → Found s j
@@ -140,6 +143,7 @@ escape_found (c ∷ s) = by_letter (letter_escape c) refl
     by_class h (inr e) (inr d) (inr u) (inl w) = moved _ _ _ (space_cons c s w) (gap_found c s w)
     by_class h (inr e) (inr d) (inr u) (inr w) =
         unknown (no_letter c s h ∙ cond-false _ _ _ (ne_eqb _ _ e) ∙ cond-false _ _ _ d ∙ cond-false _ _ _ (ne_eqb _ _ u) ∙ cond-false _ _ _ w)
+
     by_letter : (o : Option ℕ) → letter_escape c ≡ o → Found (c ∷ s) (escape_at (c ∷ s))
     by_letter (Some n) h = code (92 ∷ c ∷ []) s n 2 refl (letter c n h) refl (letter_is c n s h)
     by_letter None h = by_class h (cases_eq c 94) (cases_Bool (is_digit c)) (cases_eq c 117) (cases_Bool (is_space c))
@@ -233,9 +237,11 @@ is_unknown s i = quoted.IsUnknown.unknown s front back
         let r = (backslashed_is t h more).1 in
         let z : size_of (item_at (t ++ more)) ≡ 0 = ap (λ x. size_of (item_at x)) e ∙ ap size_of (item_backslash s ∙ i) in
         omega (arith, r.size, r.some, z)
+
     at_end : (more : List ℕ) → IsBackslashed (92 ∷ s ++ more) → (m : List ℕ) → more ≡ m → ⊥
     at_end more h [] e = front (92 ∷ s ++ more) [] h (append-nil (92 ∷ s ++ more) ∙ ap (λ m. 92 ∷ s ++ m) e ∙ append-nil (92 ∷ s))
     at_end more h (c ∷ m) e = let k = cut_is _ h s more refl (λ z. cons_not_nil c m (sym e ∙ z)) in let x : Open ≡ Unknown = sym k ∙ i in cc
+
     back : (more : List ℕ) → IsBackslashed (92 ∷ s ++ more) → ⊥
     back more h = at_end more h more refl
 
@@ -259,6 +265,7 @@ item_found (c ∷ s) = go (cases_eq c 34) (cases_eq c 10) (cases_Bool (is_contro
     behind (gap t more len e h l i) = from_part (92 ∷ s) t more _ e (quoted.IsPart.gap t h)
     behind (cut more ne h i) = opens (quoted.IsOpen.cut s more ne h) (item_backslash s ∙ i)
     behind (unknown i) = unknown (is_unknown s i) (item_backslash s ∙ i)
+
     go : (c ≡ 34) ⊎ (c ≢ 34) → (c ≡ 10) ⊎ (c ≢ 10) → (is_control c ≡ true) ⊎ (is_control c ≡ false) → (c ≡ 92) ⊎ (c ≢ 92) → Holds (c ∷ s) (item_at (c ∷ s))
     go (inl q) n k b = closes s (ap (λ x. x ∷ s) q) (cond-false _ _ _ (not_empty c s) ∙ cond-true _ _ _ (eq-eqb _ _ q))
     go (inr q) (inl n) k b = opens (subst (λ x. IsOpen (x ∷ s)) (sym n) (quoted.IsOpen.newline s)) (cond-false _ _ _ (not_empty c s) ∙ cond-false _ _ _ (ne_eqb _ _ q) ∙ cond-true _ _ _ (eq-eqb _ _ n))

@@ -1,28 +1,17 @@
 -- Numbers that the scan finds are spellings, and the longest.
-use Rattle.std.proofs.Common.{◌≡◌, ◌≢◌, ℕ, zero, suc, ◌+◌, ◌-◌, ◌<◌, ◌≤◌, Bool, true, false, not, ◌&&◌, ◌||◌, cond, eqb, leb, ltb, List, [], ◌∷◌, ◌++◌, length, take, drop, get_or, ℤ, pos, neg_ℤ, refl, sym, ap, ◌∙◌, subst, arith, ◌⊎◌, inl, inr}
+use Rattle.std.proofs.Common.{◌≡◌, ◌≢◌, ℕ, zero, suc, ◌+◌, ◌<◌, ◌≤◌, Bool, true, false, ◌&&◌, eqb, leb, List, [], ◌∷◌, ◌++◌, length, take, drop, refl, sym, ap, ◌∙◌, subst, arith, ◌⊎◌, inl, inr}
 use Rattle.std.specs.List.{prefix_len, list_all}
-use Rattle.std.proofs.lemmas.List.{append_assoc, length-append, take-append-drop, length-take-le, take_at, drop_at, length-drop, append-nil, take_all}
+use Rattle.std.proofs.lemmas.List.{append_assoc, length-append, drop_at, length-drop}
 use Rattle.std.proofs.lemmas.List.Sums.{prefix_len-le-length}
-use Rattle.std.proofs.lemmas.Bool.{and_parts, and_from, and_cases, and_left, and_right, or_left, or_right, or_cases, or_from, eqb-true, eqb-false, cond-true, cond-false, eq-eqb, ne_eqb, cases_Bool, cases_eq, ltb-true, ltb-false, lt-ltb, le-ltb, leb-true, le-leb, lt-leb}
-use Rattle.sml_lexer.specs.declared.plain.Found.{Found}
-use Rattle.sml_lexer.specs.declared.plain.Class.{Class}
-use Rattle.sml_lexer.specs.declared.plain.Class.TheVariants.{Int, WordLit, Real}
-use Rattle.sml_lexer.specs.declared.bytes.ByteClass.{ByteClass}
-use Rattle.sml_lexer.specs.declared.bytes.ByteClass.TheVariants.{Digit, Hexadecimal}
-use Rattle.sml_lexer.specs.Bytes.{is_digit, is_hexadecimal}
-use Rattle.sml_lexer.specs.Classes.{in_class}
-use Rattle.sml_lexer.specs.Classified.{meaning_of}
-use Rattle.sml_lexer.specs.IntegerScan.{magnitude_of, integer_of}
-use Rattle.sml_lexer.specs.Meanings.{Meaning}
-use Rattle.sml_lexer.specs.Meanings as meaning
-use Rattle.sml_lexer.specs.Numbers.{AreSome, number_of}
+use Rattle.std.proofs.lemmas.Bool.{and_parts, and_from, and_right, or_left, or_right, or_from, cond-true, cond-false, eq-eqb, ne_eqb, cases_eq, lt-ltb, le-ltb, le-leb}
+use Rattle.sml_lexer.specs.Bytes.{is_digit}
+use Rattle.sml_lexer.specs.Numbers.{AreSome}
 use Rattle.sml_lexer.specs.Spellings.{Spells, IsDecimal, IsExponent}
 use Rattle.sml_lexer.specs.Spellings as spellings
-use Rattle.sml_lexer.specs.PlainScan.{prefixed_len, hexadecimal_word_len, behind_one, fraction_len, decimal_len, exponent_len, real_len, digits_found, number_found, unsigned_at, negative_at}
-use Rattle.sml_lexer.proofs.RunLemmas.{run-append, run_stop, run_whole, run_all, run_front, run_take}
+use Rattle.sml_lexer.specs.PlainScan.{behind_one, fraction_len, decimal_len, exponent_len, real_len}
+use Rattle.sml_lexer.proofs.RunLemmas.{run-append, run_whole, run_take}
 use Rattle.sml_lexer.proofs.ByteLemmas.{digit_range}
 use Rattle.sml_lexer.proofs.WordLemmas.{take_plus}
-use Rattle.sml_lexer.proofs.FoundLemmas.{IsFound, IsMost}
 
 -- some bytes of a class
 pub all_some : (p : ℕ → Bool) (t : List ℕ) → AreSome p t → list_all p t ≡ true
@@ -135,6 +124,7 @@ decimal_front (c ∷ s) = go (cases_eq c 126) (digits_front (c ∷ s))
     plain : (c ≢ 126) → Front (AreSome is_digit) (c ∷ s) (prefix_len is_digit (c ∷ s)) → Front IsDecimal (c ∷ s) (prefix_len is_digit (c ∷ s))
     plain h (nothing z) = nothing z
     plain h (some z b p) = some z b (spellings.IsDecimal.plain _ p)
+
     go : (c ≡ 126) ⊎ (c ≢ 126) → Front (AreSome is_digit) (c ∷ s) (prefix_len is_digit (c ∷ s)) → Front IsDecimal (c ∷ s) (decimal_len (c ∷ s))
     go (inl h) f = subst (λ x. Front IsDecimal (x ∷ s) (decimal_len (x ∷ s))) (sym h) (subst (Front IsDecimal (126 ∷ s)) (sym (decimal_negative s)) (front_cons (AreSome is_digit) IsDecimal 126 s _ (λ t p. spellings.IsDecimal.negative t p) (digits_front s)))
     go (inr h) f = subst (Front IsDecimal (c ∷ s)) (sym (decimal_plain c s h)) (plain h f)
@@ -237,7 +227,7 @@ real_least t more (exponent e h) =
 real_least t more (both s e h k) =
     let x = exponent_first e k in
     let z : fraction_len ((46 ∷ s ++ e) ++ more) ≡ suc (length s) =
-          ap fraction_len (append_assoc (46 ∷ s) e more) ∙ ap (λ y. fraction_len (46 ∷ s ++ (y ++ more))) x.2.is ∙ fraction_exact s x.0 (x.1 ++ more) h x.2.other in
+    ap fraction_len (append_assoc (46 ∷ s) e more) ∙ ap (λ y. fraction_len (46 ∷ s ++ (y ++ more))) x.2.is ∙ fraction_exact s x.0 (x.1 ++ more) h x.2.other in
     let d = ap (λ k. exponent_len (drop k ((46 ∷ s ++ e) ++ more))) z in
     let d2 = ap (λ y. exponent_len (drop (suc (length s)) y)) (append_assoc (46 ∷ s) e more) in
     let d3 = ap exponent_len (drop_at (46 ∷ s) (e ++ more) (suc (length s)) refl) in

@@ -1,7 +1,7 @@
 -- Places byte by byte.
-use Rattle.std.proofs.Common.{◌≡◌, ◌≢◌, ℕ, zero, suc, ◌+◌, ◌<◌, ◌≤◌, Bool, true, false, not, cond, eqb, List, [], ◌∷◌, ◌++◌, length, reverse, refl, sym, ap, ◌∙◌, subst, arith, ◌⊎◌, inl, inr}
+use Rattle.std.proofs.Common.{◌≡◌, ℕ, ◌+◌, ◌≤◌, Bool, true, false, not, cond, eqb, List, [], ◌∷◌, ◌++◌, length, sym, ap, ◌∙◌, arith, ◌⊎◌, inl, inr}
 use Rattle.std.specs.Prelude.{count_by}
-use Rattle.std.specs.List.{fold, prefix_len, suffix_len, sum_by}
+use Rattle.std.specs.List.{fold, prefix_len, suffix_len}
 use Rattle.std.proofs.lemmas.List.{append_assoc, append-nil, reverse-append}
 use Rattle.std.proofs.lemmas.List.Sums.{sum_by_push, count_by-le-length, suffix_len-le-length}
 use Rattle.std.proofs.lemmas.Bool.{cases_Bool, cond-true, cond-false}
@@ -17,10 +17,13 @@ next_behind file b c = go (cases_Bool (eqb c 10))
   where
     line : count_by is_newline (b ++ c ∷ []) ≡ count_by is_newline b + cond (eqb c 10) 1 0
     line = sum_by_push (λ x. cond (is_newline x) 1 0) b c
+
     col : suffix_len (λ x. not (is_newline x)) (b ++ c ∷ []) ≡ cond (not (eqb c 10)) (1 + suffix_len (λ x. not (is_newline x)) b) 0
     col = suffix_push (λ x. not (is_newline x)) b c
+
     same : (l k m n : ℕ) → l ≡ m → k ≡ n → ◌≡◌ {A = Place} (record { file = file; line = l; col = k }) (record { file = file; line = m; col = n })
     same l k m n e f = ap (λ x. record { file = file; line = x; col = k }) e ∙ ap (λ x. record { file = file; line = m; col = x }) f
+
     go : (eqb c 10 ≡ true) ⊎ (eqb c 10 ≡ false) → next_place (place_behind file b) c ≡ place_behind file (b ++ c ∷ [])
     go (inl h) =
         let l = line ∙ ap (λ x. count_by is_newline b + cond x 1 0) h in

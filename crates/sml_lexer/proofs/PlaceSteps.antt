@@ -1,9 +1,8 @@
 -- What stands at a place that opens no constant in quotes.
-use Rattle.std.proofs.Common.{◌≡◌, ◌≢◌, ℕ, zero, suc, ◌+◌, ◌-◌, ◌<◌, ◌≤◌, Bool, true, false, List, [], ◌∷◌, ◌++◌, Option, Some, None, length, take, drop, get_or, ℤ, refl, sym, ap, ◌∙◌, subst, arith, ◌⊎◌, inl, inr}
-use Rattle.std.proofs.lemmas.List.{append_assoc, length-append, append-nil, take-append-drop, length-take-le, take_at, drop_at}
+use Rattle.std.proofs.Common.{◌≡◌, ◌≢◌, ℕ, suc, ◌+◌, ◌<◌, ◌≤◌, true, false, List, [], ◌∷◌, ◌++◌, Some, None, length, take, drop, get_or, ℤ, refl, sym, ap, ◌∙◌, subst, arith, ◌⊎◌, inl, inr}
+use Rattle.std.proofs.lemmas.List.{append_assoc, take-append-drop, length-take-le}
 use Rattle.sml_lexer.specs.declared.plain.Found.{Found}
 use Rattle.sml_lexer.specs.declared.reserved.Reserved.TheVariants.{KwOpenParen}
-use Rattle.sml_lexer.specs.declared.step.Spot.{Spot}
 use Rattle.sml_lexer.specs.declared.step.Trouble.{Trouble}
 use Rattle.sml_lexer.specs.declared.step.Trouble.TheVariants.{BadToken, Unclosed, LiteralRange}
 use Rattle.sml_lexer.specs.Bytes.{is_space}
@@ -20,7 +19,7 @@ use Rattle.sml_lexer.specs.Steps.{IsFirstAt, IsTokenAt, IsGapAt, OpensNone, NoCo
 use Rattle.sml_lexer.specs.Tokens.{Opening, FailsAt, StandsAs, IsAllowed, IsLongest, OpensMore, number_of}
 use Rattle.sml_lexer.specs.Tokens as tokens
 use Rattle.sml_lexer.proofs.CommentLemmas.{comment_found, comment_is}
-use Rattle.sml_lexer.proofs.FoundLemmas.{IsFound, IsMost}
+use Rattle.sml_lexer.proofs.FoundLemmas.{IsFound}
 use Rattle.sml_lexer.proofs.PlainMost.{Quoted, string, character, Most, plain_found, plain_most}
 use Rattle.sml_lexer.proofs.ConstantSteps.{at_or_behind, least_number}
 
@@ -74,6 +73,7 @@ module _ (bytes : List ℕ) (some : 0 < length bytes) (nc : NoComment bytes) (n 
               let b = z.most.bound in
               let k = ap (λ (g : Found). g.len) same in
               omega arith
+
       closed : (t y : List ℕ) → t ++ y ≡ bytes → ¬ OpensMore t y
       closed t y q (tokens.OpensMore.comment z) = nc (ap (λ (y : List ℕ). get_or y 0 0) (sym q)) (ap (λ (y : List ℕ). get_or y 1 0) (sym q))
       closed t y q (tokens.OpensMore.constant z) = n.no_hash (ap (λ (y : List ℕ). get_or y 0 0) (sym q)) (ap (λ (y : List ℕ). get_or y 1 0) (sym q))
@@ -125,6 +125,7 @@ open_comment_step s e = record {
   where
     none : OpensNone (40 ∷ 42 ∷ s)
     none = record { no_quote = omega arith; no_hash = λ h. omega (arith, h) }
+
     go : (a k : List ℕ) (why : Trouble) → FailsAt a k why → a ≡ 40 ∷ 42 ∷ s → (0 < length k) ⊎ ((0 ≡ length k) × (2 ≤ number_of why))
     go a k why (tokens.FailsAt.stranger c u g h q) w = absurd (h (40 ∷ []) (42 ∷ s) _ (spellings.Spells.reserved KwOpenParen) (sym w))
     go a k why (tokens.FailsAt.open_comment u h) w = inr (refl, omega arith)

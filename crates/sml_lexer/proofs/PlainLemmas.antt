@@ -1,30 +1,21 @@
 -- The scan finds exactly the longest spelling, of every token but the constants in quotes.
-use Rattle.std.proofs.Common.{◌≡◌, ◌≢◌, ℕ, zero, suc, ◌+◌, ◌-◌, ◌<◌, ◌≤◌, Bool, true, false, not, ◌&&◌, ◌||◌, cond, eqb, leb, ltb, List, [], ◌∷◌, ◌++◌, Option, Some, None, length, take, drop, get_or, ℤ, pos, neg_ℤ, refl, sym, ap, ◌∙◌, subst, arith, ◌⊎◌, inl, inr}
-use Rattle.std.specs.List.{prefix_len, list_all}
-use Rattle.std.proofs.lemmas.List.{append_assoc, length-append, append-nil, take_all}
-use Rattle.std.proofs.lemmas.Bool.{and_parts, and_from, and_left, and_right, eqb-true, cond-true, cond-false, eq-eqb, ne_eqb, cases_Bool, cases_eq, le-leb, lt-leb, leb-true}
-use Rattle.sml_lexer.specs.declared.plain.Found.{Found}
+use Rattle.std.proofs.Common.{◌≡◌, ◌≢◌, ℕ, true, false, ◌&&◌, eqb, List, [], ◌∷◌, ◌++◌, Some, length, get_or, pos, neg_ℤ, refl, sym, ap, ◌∙◌, subst, arith}
+use Rattle.std.proofs.lemmas.List.{append_assoc}
+use Rattle.std.proofs.lemmas.Bool.{and_parts, and_from, and_right, cond-true, cond-false, eq-eqb, ne_eqb, le-leb}
 use Rattle.sml_lexer.specs.declared.plain.Class.{Class}
-use Rattle.sml_lexer.specs.declared.plain.Class.TheVariants.{Word, Int, WordLit, Real}
-use Rattle.sml_lexer.specs.declared.reserved.Reserved.{Reserved}
-use Rattle.sml_lexer.specs.declared.reserved.Reserved.TheVariants.{KwDots}
-use Rattle.sml_lexer.specs.Bytes.{is_letter, is_digit, is_hexadecimal, is_alphanumeric, is_sign}
+use Rattle.sml_lexer.specs.Bytes.{is_letter, is_digit, is_sign}
 use Rattle.sml_lexer.specs.Classified.{meaning_of}
 use Rattle.sml_lexer.specs.IntegerScan.{magnitude_of, integer_of}
 use Rattle.sml_lexer.specs.Meanings.{Meaning}
 use Rattle.sml_lexer.specs.Meanings as meaning
 use Rattle.sml_lexer.specs.Numbers.{AreSome, number_of}
-use Rattle.sml_lexer.specs.Reserved.{spelling, reserved_of}
 use Rattle.sml_lexer.specs.Spellings.{Spells, IsDecimal, IsExponent, IsSymbol}
 use Rattle.sml_lexer.specs.Spellings as spellings
-use Rattle.sml_lexer.specs.PlainScan.{word_at, sign_at, unsigned_at, negative_at, word_of, point_at, plain_at}
+use Rattle.sml_lexer.specs.PlainScan.{word_at, sign_at, unsigned_at, negative_at, point_at, plain_at}
 use Rattle.sml_lexer.proofs.ByteLemmas.{digit_range, digit_not_letter, sign_not_letter, sign_not_digit}
-use Rattle.sml_lexer.proofs.ReservedLemmas.{reserved_found, reserved_is, Shape, alphabetic, signs, point, dots, is_point, shape}
-use Rattle.sml_lexer.proofs.RunLemmas.{run-append}
-use Rattle.sml_lexer.proofs.WordLemmas.{letter_first, sign_first, some_alphanumeric}
-use Rattle.sml_lexer.proofs.FoundLemmas.{IsFound, IsMost, word_is_found, identifier_most, reserved_most, long_most, sign_is_found, symbol_most, reserved_sign_most, variable_at, variable_is_found, variable_most}
-use Rattle.sml_lexer.proofs.NumberLemmas.{RealTail, fraction, exponent, both, all_some}
-use Rattle.sml_lexer.proofs.UnsignedLemmas.{IsUnsigned, hexadecimal, hexadecimal_word, word, real, digits, IsFoundAs, unsigned_is, IsMostAs, unsigned_most}
+use Rattle.sml_lexer.proofs.FoundLemmas.{variable_at}
+use Rattle.sml_lexer.proofs.NumberLemmas.{RealTail, fraction, exponent, both}
+use Rattle.sml_lexer.proofs.UnsignedLemmas.{IsUnsigned, hexadecimal, hexadecimal_word, word, real, digits}
 
 -- the values of integer constants
 digit_second : (t : List ℕ) → AreSome is_digit t → get_or t 1 0 ≢ 120

@@ -1,32 +1,30 @@
 -- The scan finds a spelling, and no longer one stands there.
-use Rattle.std.proofs.Common.{◌≡◌, ◌≢◌, ℕ, zero, suc, ◌+◌, ◌-◌, ◌<◌, ◌≤◌, Bool, true, false, not, ◌&&◌, ◌||◌, cond, eqb, leb, ltb, List, [], ◌∷◌, ◌++◌, Option, Some, None, length, take, drop, get_or, ℤ, pos, neg_ℤ, refl, sym, ap, ◌∙◌, subst, arith, ◌⊎◌, inl, inr}
-use Rattle.std.specs.List.{prefix_len, list_all, AllByRecursion}
-use Rattle.std.proofs.lemmas.List.{append_assoc, length-append, append-nil, take_all, take_at}
-use Rattle.std.proofs.lemmas.Bool.{and_parts, and_from, and_left, and_right, eqb-true, cond-true, cond-false, eq-eqb, ne_eqb, cases_Bool, cases_eq, le-leb, lt-leb, leb-true}
+use Rattle.std.proofs.Common.{◌≡◌, ◌≢◌, ℕ, suc, ◌+◌, ◌≤◌, Bool, true, false, ◌&&◌, eqb, leb, List, [], ◌∷◌, ◌++◌, Option, Some, None, length, take, drop, get_or, pos, neg_ℤ, refl, sym, ap, ◌∙◌, subst, arith, ◌⊎◌, inl, inr}
+use Rattle.std.specs.List.{prefix_len, AllByRecursion}
+use Rattle.std.proofs.lemmas.List.{append_assoc}
+use Rattle.std.proofs.lemmas.Bool.{and_parts, and_from, and_left, and_right, eqb-true, cond-true, cond-false, ne_eqb, cases_Bool, cases_eq, le-leb, leb-true}
 use Rattle.sml_lexer.specs.declared.plain.Found.{Found}
 use Rattle.sml_lexer.specs.declared.plain.Class.{Class}
 use Rattle.sml_lexer.specs.declared.plain.Class.TheVariants.{Word, Int, WordLit, Real}
 use Rattle.sml_lexer.specs.declared.reserved.Reserved.{Reserved}
 use Rattle.sml_lexer.specs.declared.reserved.Reserved.TheVariants.{KwDots}
-use Rattle.sml_lexer.specs.Bytes.{is_letter, is_digit, is_hexadecimal, is_alphanumeric, is_sign}
+use Rattle.sml_lexer.specs.Bytes.{is_letter, is_digit, is_sign}
 use Rattle.sml_lexer.specs.Classified.{meaning_of}
 use Rattle.sml_lexer.specs.Meanings.{Meaning}
 use Rattle.sml_lexer.specs.Meanings as meaning
-use Rattle.sml_lexer.specs.Numbers.{AreSome, number_of}
+use Rattle.sml_lexer.specs.Numbers.{AreSome}
 use Rattle.sml_lexer.specs.Quoted.{AreParts, characters}
 use Rattle.sml_lexer.specs.Reserved.{spelling, reserved_of}
 use Rattle.sml_lexer.specs.Spellings.{Spells, IsDecimal, IsExponent, IsSymbol, IsTypeVariable, IsLong}
 use Rattle.sml_lexer.specs.Spellings as spellings
-use Rattle.sml_lexer.specs.IntegerScan.{magnitude_of, integer_of}
 use Rattle.sml_lexer.specs.PlainScan.{word_at, sign_at, unsigned_at, negative_at, word_of, point_at, plain_at}
-use Rattle.sml_lexer.proofs.ByteLemmas.{digit_range, digit_not_letter, sign_not_letter, sign_not_digit}
+use Rattle.sml_lexer.proofs.ByteLemmas.{sign_not_digit}
 use Rattle.sml_lexer.proofs.ReservedLemmas.{reserved_found, reserved_is, Shape, alphabetic, signs, point, dots, is_point, shape}
-use Rattle.sml_lexer.proofs.RunLemmas.{run-append}
-use Rattle.sml_lexer.proofs.WordLemmas.{letter_first, sign_first, some_alphanumeric}
-use Rattle.sml_lexer.proofs.FoundLemmas.{IsFound, IsMost, word_is_found, identifier_most, reserved_most, long_most, sign_is_found, symbol_most, reserved_sign_most, variable_at, variable_is_found, variable_most}
-use Rattle.sml_lexer.proofs.NumberLemmas.{RealTail, fraction, exponent, both, all_some}
-use Rattle.sml_lexer.proofs.UnsignedLemmas.{IsUnsigned, hexadecimal, hexadecimal_word, word, real, digits, IsFoundAs, unsigned_is, IsMostAs, unsigned_most}
-use Rattle.sml_lexer.proofs.PlainLemmas.{unsigned_spells, negative_spells, at_letter, at_digit, at_prime, at_tilde, at_sign, at_point, integer_decimal, integer_hexadecimal, integer_negative, magnitude_decimal, magnitude_hexadecimal, digit_head}
+use Rattle.sml_lexer.proofs.WordLemmas.{letter_first}
+use Rattle.sml_lexer.proofs.FoundLemmas.{IsFound, IsMost, word_is_found, identifier_most, reserved_most, long_most, sign_is_found, symbol_most, reserved_sign_most, variable_is_found, variable_most}
+use Rattle.sml_lexer.proofs.NumberLemmas.{RealTail, fraction, exponent, both}
+use Rattle.sml_lexer.proofs.UnsignedLemmas.{IsUnsigned, hexadecimal, hexadecimal_word, word, real, digits, unsigned_is, unsigned_most}
+use Rattle.sml_lexer.proofs.PlainLemmas.{unsigned_spells, negative_spells, at_letter, at_digit, at_prime, at_tilde, at_sign, at_point, integer_decimal, integer_hexadecimal, integer_negative, magnitude_decimal, magnitude_hexadecimal}
 
 digit_run : (s : List ℕ) → is_digit (get_or s 0 0) ≡ true → prefix_len is_digit s ≢ 0
 unfolding is_digit
@@ -52,14 +50,17 @@ point_found s ne f e = go (cases_Bool test) (reserved_of (take 1 s)) refl
   where
     test : Bool
     test = leb 3 (length s) && eqb (get_or s 0 0) 46 && eqb (get_or s 1 0) 46 && eqb (get_or s 2 0) 46
+
     three : (s : List ℕ) → 3 ≤ length s → get_or s 0 0 ≡ 46 → get_or s 1 0 ≡ 46 → get_or s 2 0 ≡ 46 → 46 ∷ 46 ∷ 46 ∷ [] ≡ take 3 s
     three [] h a b c = absurd (omega arith)
     three (x ∷ []) h a b c = absurd (omega arith)
     three (x ∷ y ∷ []) h a b c = absurd (omega arith)
     three (x ∷ y ∷ z ∷ s) h a b c = ap (λ k. k ∷ 46 ∷ 46 ∷ []) (sym a) ∙ ap (λ k. x ∷ k ∷ 46 ∷ []) (sym b) ∙ ap (λ k. x ∷ y ∷ k ∷ []) (sym c)
+
     one : (s : List ℕ) → s ≢ [] → 1 ≤ length s
     one [] h = absurd (h refl)
     one (c ∷ s) h = omega arith
+
     go : (test ≡ true) ⊎ (test ≡ false) → (o : Option Reserved) → reserved_of (take 1 s) ≡ o → IsFound s f
     go (inl h) _ _ =
         let (h012, h3) = and_parts _ _ h in
@@ -81,8 +82,10 @@ plain_found s ne f e = go (cases_Bool (is_letter c)) (cases_Bool (is_digit c)) (
   where
     c : ℕ
     c = get_or s 0 0
+
     by : (g : Found) → plain_at s ≡ Some g → IsFound s g → IsFound s f
     by g k h = let q : Some g ≡ Some f = sym k ∙ e in let same : g ≡ f = cc in subst (IsFound s) same h
+
     go : (is_letter c ≡ true) ⊎ (is_letter c ≡ false) → (is_digit c ≡ true) ⊎ (is_digit c ≡ false) → (c ≡ 39) ⊎ (c ≢ 39) → ((eqb c 126 && is_digit (get_or s 1 0)) ≡ true) ⊎ ((eqb c 126 && is_digit (get_or s 1 0)) ≡ false) → (is_sign c ≡ true) ⊎ (is_sign c ≡ false) → IsFound s f
     go (inl l) _ _ _ _ = by _ (at_letter s l) (word_is_found s l)
     go (inr l) (inl d) _ _ _ = by _ (at_digit s d) (unsigned_found s d)
@@ -116,9 +119,11 @@ signs_most t more m h k = go (cases_Bool (eqb c 126 && is_digit (get_or (t ++ mo
   where
     c : ℕ
     c = get_or (t ++ more) 0 0
+
     first : (t : List ℕ) → AreSome is_sign t → is_sign (get_or (t ++ more) 0 0) ≡ true
     first [] h = absurd h
     first (a ∷ t) h = (and_parts _ _ h).0
+
     go : ((eqb c 126 && is_digit (get_or (t ++ more) 1 0)) ≡ true) ⊎ ((eqb c 126 && is_digit (get_or (t ++ more) 1 0)) ≡ false) → Most t m more
     go (inl b) =
         let (b0, b1) = and_parts _ _ b in
@@ -136,10 +141,10 @@ point_most : (w : Reserved) (c : ℕ) (more : List ℕ) → spelling w ≡ c ∷
 unfolding point_at
 point_most w c more e (a, b, d, t, s, dot) =
     at_least (c ∷ []) (meaning.word w) more (record { len = 1; class = Word w })
-      (at_point (c ∷ more) a b d (and_left _ _ (ne_eqb _ _ t)) s
-        ∙ cond-false _ _ _ (and_left _ _ (and_left _ _ (and_right _ _ (ne_eqb _ _ dot))))
-        ∙ ap word_of (ap reserved_of (sym e) ∙ reserved_is w))
-      (record { bound = omega arith; same = λ k. refl })
+    (at_point (c ∷ more) a b d (and_left _ _ (ne_eqb _ _ t)) s
+    ∙ cond-false _ _ _ (and_left _ _ (and_left _ _ (and_right _ _ (ne_eqb _ _ dot))))
+    ∙ ap word_of (ap reserved_of (sym e) ∙ reserved_is w))
+    (record { bound = omega arith; same = λ k. refl })
 
 dots_most : (w : Reserved) (more : List ℕ) → spelling w ≡ 46 ∷ 46 ∷ 46 ∷ [] → Most (46 ∷ 46 ∷ 46 ∷ []) (meaning.word w) more
 unfolding point_at is_letter is_digit is_sign
@@ -147,8 +152,8 @@ dots_most w more e =
     let k : Some w ≡ Some KwDots = sym (reserved_is w) ∙ ap reserved_of e ∙ reserved_is KwDots in
     let same : KwDots ≡ w = cc in
     at_least (46 ∷ 46 ∷ 46 ∷ []) (meaning.word w) more (record { len = 3; class = Word KwDots })
-      (at_point (46 ∷ 46 ∷ 46 ∷ more) refl refl (omega arith) refl refl ∙ cond-true _ _ _ (and_from _ _ (and_from _ _ (and_from _ _ (le-leb 3 (length (46 ∷ 46 ∷ 46 ∷ more)) (omega arith)) refl) refl) refl))
-      (record { bound = omega arith; same = λ q. ap (λ x. meaning.word x) same })
+    (at_point (46 ∷ 46 ∷ 46 ∷ more) refl refl (omega arith) refl refl ∙ cond-true _ _ _ (and_from _ _ (and_from _ _ (and_from _ _ (le-leb 3 (length (46 ∷ 46 ∷ 46 ∷ more)) (omega arith)) refl) refl) refl))
+    (record { bound = omega arith; same = λ q. ap (λ x. meaning.word x) same })
 
 reserved_word_most : (w : Reserved) (t : List ℕ) → spelling w ≡ t → Shape t → (more : List ℕ) → Most t (meaning.word w) more
 reserved_word_most w t e (alphabetic s h) more =
@@ -196,6 +201,7 @@ plain_most t m (spellings.Spells.long s l) more = inr (of_long t l)
     letter_long : (q s more : List ℕ) → spellings.IsAlphanumeric q → is_letter (get_or ((q ++ 46 ∷ s) ++ more) 0 0) ≡ true
     letter_long [] s more h = absurd h
     letter_long (c ∷ q) s more h = h.0
+
     of_long : (t : List ℕ) → IsLong t → Most t (meaning.long t) more
     of_long t (spellings.IsLong.long q s i a) = at_least t _ more _ (at_letter (t ++ more) (letter_long q s more i.spelled)) (long_most q s more i a)
 plain_most t m (spellings.Spells.type_variable s h) more = inr (at_least t m more _ (at_prime (t ++ more) (first t h)) (variable_most t more h))

@@ -1,10 +1,8 @@
 -- A constant is read part by part.
-use Rattle.std.proofs.Common.{◌≡◌, ◌≢◌, ℕ, zero, suc, ◌+◌, ◌-◌, ◌<◌, ◌≤◌, Bool, true, false, ◌||◌, cond, ltb, List, [], ◌∷◌, ◌++◌, Option, Some, None, length, take, drop, refl, sym, ap, ◌∙◌, subst, arith, ◌⊎◌, inl, inr}
-use Rattle.std.proofs.lemmas.List.{append_assoc, length-append, append-nil, take-append-drop, length-take-le, take_at, length-drop}
-use Rattle.std.proofs.lemmas.Bool.{cases_Bool, cond-true, cond-false}
+use Rattle.std.proofs.Common.{◌≡◌, ◌≢◌, ℕ, ◌+◌, ◌<◌, ◌≤◌, Bool, true, false, ◌||◌, cond, ltb, List, [], ◌∷◌, ◌++◌, Option, Some, None, length, take, drop, refl, sym, ap, ◌∙◌, subst, arith}
+use Rattle.std.proofs.lemmas.List.{append_assoc, length-append, append-nil, length-take-le, take_at, length-drop}
 use Rattle.sml_lexer.specs.declared.quoted.Item.{Item}
 use Rattle.sml_lexer.specs.declared.quoted.Item.TheVariants.{Char, Gap, Control, Close, Open, Unknown}
-use Rattle.sml_lexer.specs.declared.quoted.Ending.{Ending}
 use Rattle.sml_lexer.specs.declared.quoted.Ending.TheVariants as ending
 use Rattle.sml_lexer.specs.Bytes.{is_control}
 use Rattle.sml_lexer.specs.Quoted.{Part, character, stray, IsPart, AreParts, IsOpen, IsUnknown, has_wide}
@@ -21,7 +19,7 @@ pub parts-append : (s : List ℕ) (ps : List Part) → AreParts s ps → (t : Li
 parts-append s ps quoted.AreParts.nothing t qs b = b
 parts-append s ps (quoted.AreParts.part u v us vs p a) t qs b =
     subst (λ x. AreParts x ((us ++ vs) ++ qs)) (sym (append_assoc u v t))
-      (subst (AreParts (u ++ (v ++ t))) (sym (append_assoc us vs qs)) (quoted.AreParts.part u (v ++ t) us (vs ++ qs) p (parts-append v vs a t qs b)))
+    (subst (AreParts (u ++ (v ++ t))) (sym (append_assoc us vs qs)) (quoted.AreParts.part u (v ++ t) us (vs ++ qs) p (parts-append v vs a t qs b)))
 
 pub one_part : (s : List ℕ) (ps : List Part) → IsPart s ps → AreParts s ps
 one_part s ps p = subst (AreParts s) (append-nil ps) (subst (λ x. AreParts x (ps ++ [])) (append-nil s) (quoted.AreParts.part s [] ps [] p quoted.AreParts.nothing))
@@ -50,15 +48,15 @@ stray_stays : (s : List ℕ) (ps : List Part) (o : Option ℕ) → FirstStray s 
 stray_stays s ps o (strays.FirstStray.none u us h) t qs a k = strays.FirstStray.none _ _ (stray-append ps qs ∙ ap (λ b. b || has_stray qs) h ∙ k)
 stray_stays s ps o (strays.FirstStray.at u v c us vs au h k n av) t qs a q =
     subst (λ x. FirstStray x ((us ++ stray ∷ vs) ++ qs) (Some (length u))) (sym (append_assoc u (c ∷ v) t))
-      (subst (λ x. FirstStray (u ++ c ∷ (v ++ t)) x (Some (length u))) (sym (append_assoc us (stray ∷ vs) qs))
-        (strays.FirstStray.at u (v ++ t) c us (vs ++ qs) au h k n (parts-append v vs av t qs a)))
+    (subst (λ x. FirstStray (u ++ c ∷ (v ++ t)) x (Some (length u))) (sym (append_assoc us (stray ∷ vs) qs))
+    (strays.FirstStray.at u (v ++ t) c us (vs ++ qs) au h k n (parts-append v vs av t qs a)))
 
 stray_next : (s : List ℕ) (ps : List Part) (o : Option ℕ) → AreParts s ps → FirstStray s ps o → (c : ℕ) → is_control c ≡ true → c ≢ 10 → FirstStray (s ++ c ∷ []) (ps ++ stray ∷ []) (first_of o (length s))
 stray_next s ps o a (strays.FirstStray.none u us h) c k n = strays.FirstStray.at s [] c ps [] a h k n quoted.AreParts.nothing
 stray_next s ps o a (strays.FirstStray.at u v d us vs au h k n av) c l m =
     subst (λ x. FirstStray x ((us ++ stray ∷ vs) ++ stray ∷ []) (Some (length u))) (sym (append_assoc u (d ∷ v) (c ∷ [])))
-      (subst (λ x. FirstStray (u ++ d ∷ (v ++ c ∷ [])) x (Some (length u))) (sym (append_assoc us (stray ∷ vs) (stray ∷ [])))
-        (strays.FirstStray.at u (v ++ c ∷ []) d us (vs ++ stray ∷ []) au h k n (parts-append v vs av (c ∷ []) (stray ∷ []) (one_part _ _ (quoted.IsPart.control c l m)))))
+    (subst (λ x. FirstStray (u ++ d ∷ (v ++ c ∷ [])) x (Some (length u))) (sym (append_assoc us (stray ∷ vs) (stray ∷ [])))
+    (strays.FirstStray.at u (v ++ c ∷ []) d us (vs ++ stray ∷ []) au h k n (parts-append v vs av (c ∷ []) (stray ∷ []) (one_part _ _ (quoted.IsPart.control c l m)))))
 
 pub read_nothing : (bytes : List ℕ) → IsRead bytes 0 [] false None
 read_nothing bytes = record { in_range = omega arith; parts = []; are = quoted.AreParts.nothing; values_are = refl; wide_is = refl; stray_is = strays.FirstStray.none [] [] refl }
@@ -114,7 +112,7 @@ if_true false = refl
 
 module _ (bytes value : List ℕ) (at : ℕ) (wide : Bool) (strayed : Option ℕ) (r : IsRead bytes at value wide strayed) where
   more_read : (i : Item) (p : PartAt bytes at i) (o : Option ℕ) → FirstStray (take at bytes ++ p.text) (r.parts ++ parts_of i) o
-    → (v : List ℕ) → value ++ values (parts_of i) ≡ v → (w : Bool) → (wide || has_wide (parts_of i)) ≡ w → IsRead bytes (at + size_of i) v w o
+      → (v : List ℕ) → value ++ values (parts_of i) ≡ v → (w : Bool) → (wide || has_wide (parts_of i)) ≡ w → IsRead bytes (at + size_of i) v w o
   more_read i p o f v ve w we = record {
     in_range = p.room;
     parts = r.parts ++ parts_of i;
@@ -147,12 +145,13 @@ module _ (bytes value : List ℕ) (at : ℕ) (wide : Bool) (strayed : Option ℕ
       invert t ps (quoted.IsPart.escape u n h) q = cc
       invert t ps (quoted.IsPart.gap u h) q = cc
       invert t ps (quoted.IsPart.control c h k) q = (c, refl, h, k)
+
       here : (t : List ℕ) → IsPart t (stray ∷ []) → FirstStray (take at bytes ++ t) (r.parts ++ stray ∷ []) (first_of strayed at)
       here t h =
           let (c, q, k, n) = invert t _ h refl in
           subst (λ x. FirstStray (take at bytes ++ x) (r.parts ++ stray ∷ []) (first_of strayed at)) (sym q)
-            (subst (λ m. FirstStray (take at bytes ++ c ∷ []) (r.parts ++ stray ∷ []) (first_of strayed m)) (length-take-le at bytes r.in_range)
-              (stray_next _ _ _ r.are r.stray_is c k n))
+          (subst (λ m. FirstStray (take at bytes ++ c ∷ []) (r.parts ++ stray ∷ []) (first_of strayed m)) (length-take-le at bytes r.in_range)
+          (stray_next _ _ _ r.are r.stray_is c k n))
 
 -- how a constant ends
 no_part : (s t : List ℕ) (ps : List Part) (i : Item) → item_at s ≡ i → size_of i ≡ 0 → Reads t ps (item_at s) → ⊥

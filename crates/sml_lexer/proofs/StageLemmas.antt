@@ -1,20 +1,17 @@
 -- A constant has one reading.
-use Rattle.std.proofs.Common.{◌≡◌, ◌≢◌, ℕ, zero, suc, ◌+◌, ◌-◌, ◌<◌, ◌≤◌, Bool, true, false, ◌||◌, cond, ltb, List, [], ◌∷◌, ◌++◌, Option, Some, None, length, take, drop, refl, sym, ap, ◌∙◌, subst, arith, ◌⊎◌, inl, inr}
-use Rattle.std.proofs.lemmas.List.{append_assoc, length-append, append-nil, append_cancel_left, take_at, drop_at}
-use Rattle.std.proofs.lemmas.Bool.{cond-true, cond-false}
+use Rattle.std.proofs.Common.{◌≡◌, ℕ, List, [], ◌∷◌, ◌++◌, length, take, drop, refl, sym, ap, ◌∙◌, arith}
+use Rattle.std.proofs.lemmas.List.{append_assoc, append-nil, append_cancel_left, take_at, drop_at}
+use Rattle.std.proofs.lemmas.Bool.{cond-false}
 use Rattle.sml_lexer.specs.declared.quoted.Item.{Item}
 use Rattle.sml_lexer.specs.declared.quoted.Item.TheVariants.{Char, Gap, Control, Close, Open, Unknown}
 use Rattle.sml_lexer.specs.declared.quoted.Ending.{Ending}
 use Rattle.sml_lexer.specs.declared.quoted.Ending.TheVariants as ending
-use Rattle.sml_lexer.specs.Bytes.{is_control}
 use Rattle.sml_lexer.specs.Quoted.{Part, character, stray, IsPart, AreParts, IsOpen, IsUnknown, has_wide, character_count}
 use Rattle.sml_lexer.specs.Quoted as quoted
 use Rattle.sml_lexer.specs.QuotedScan.{item_at}
-use Rattle.sml_lexer.specs.QuotedRead.{values, has_stray, FirstStray, Ends}
-use Rattle.sml_lexer.specs.QuotedRead as strays
-use Rattle.sml_lexer.proofs.ItemLemmas.{parts_of, size_of, Reads, part_is, not_empty}
+use Rattle.sml_lexer.specs.QuotedRead.{Ends}
+use Rattle.sml_lexer.proofs.ItemLemmas.{parts_of, size_of, part_is, not_empty}
 use Rattle.sml_lexer.proofs.ItemsFound.{open_is, unknown_is}
-use Rattle.sml_lexer.proofs.QuotedReadLemmas.{parts-append, one_part, wide-append, stray-append}
 
 -- one part stands at a place
 pub part_unique : (s t : List ℕ) (ps qs : List Part) → IsPart s ps → IsPart t qs → (x y : List ℕ) → s ++ x ≡ t ++ y → (s ≡ t) × (ps ≡ qs) × (x ≡ y)
@@ -106,6 +103,7 @@ module _ (bytes s : List ℕ) (ps : List Part) (e : Ending) (more : List ℕ) (w
     where
       rest : (r : List ℕ) → s ≡ t ++ r → r ++ more ≡ y
       rest r f = append_cancel_left t (r ++ more) y (sym (append_assoc t r more) ∙ ap (λ k. k ++ more) (sym f) ∙ w.bytes_are ∙ sym is)
+
       go : Stage s ps t qs → (r : List ℕ) × (rs : List Part) × AreParts r rs × (s ≡ t ++ r) × (ps ≡ qs ++ rs) × (r ++ more ≡ y)
       go (long r rs c f g) = (r, rs, c, f, g, rest r f)
       go (short r rs c f g) =

@@ -1,11 +1,11 @@
 -- A step of the scan, from what was read.
-use Rattle.std.proofs.Common.{◌≡◌, ◌≢◌, ℕ, zero, suc, ◌+◌, ◌-◌, ◌<◌, ◌≤◌, Bool, true, false, List, [], ◌∷◌, ◌++◌, Option, Some, None, length, take, drop, get_or, refl, sym, ap, ◌∙◌, subst, arith, ◌⊎◌, inl, inr}
-use Rattle.std.proofs.lemmas.List.{append_assoc, length-append, append-nil, take-append-drop, length-take-le, take_at, drop_at, length-drop}
+use Rattle.std.proofs.Common.{◌≡◌, ℕ, ◌+◌, ◌<◌, ◌≤◌, Bool, true, false, List, [], ◌∷◌, ◌++◌, Option, Some, None, length, take, drop, get_or, refl, sym, ap, ◌∙◌, subst, arith}
+use Rattle.std.proofs.lemmas.List.{length-append, take-append-drop, length-take-le}
 use Rattle.sml_lexer.specs.declared.quoted.Ending.{Ending}
 use Rattle.sml_lexer.specs.declared.quoted.Ending.TheVariants as ending
 use Rattle.sml_lexer.specs.declared.step.Spot.{Spot}
 use Rattle.sml_lexer.specs.Meanings as meaning
-use Rattle.sml_lexer.specs.Quoted.{Part, character_count}
+use Rattle.sml_lexer.specs.Quoted.{Part}
 use Rattle.sml_lexer.specs.QuotedRead.{values, FirstStray, IsRead, Ends}
 use Rattle.sml_lexer.specs.QuotedRead as strays
 use Rattle.sml_lexer.specs.Steps.{IsFirstAt, IsTokenAt, fault_of}
@@ -56,7 +56,7 @@ module _ (bytes : List ℕ) (first : get_or bytes 0 0 ≡ 34) (len : ℕ) (value
       let c = closed_here (34 ∷ []) false quote (drop 1 bytes) len value wide stray r e h q in
       let l = length-take-le len (drop 1 bytes) r.in_range in
       subst (λ x. IsTokenAt x (len + 2) (meaning.text value)) (cons_is 34 bytes (omega arith) first)
-        (string_token (drop 1 bytes) (take len (drop 1 bytes)) r.parts c.0 c.1 c.2 value r.values_are (len + 2) (omega arith))
+      (string_token (drop 1 bytes) (take len (drop 1 bytes)) r.parts c.0 c.1 c.2 value r.values_are (len + 2) (omega arith))
 
 single : (value : List ℕ) → length value ≡ 1 → value ≡ get_or value 0 0 ∷ []
 single [] h = absurd (omega arith)
@@ -78,4 +78,4 @@ module _ (bytes : List ℕ) (first : get_or bytes 0 0 ≡ 35) (second : get_or b
       let c = closed_here (35 ∷ 34 ∷ []) true hash (drop 2 bytes) len value wide stray r e h q in
       let l = length-take-le len (drop 2 bytes) r.in_range in
       subst (λ x. IsTokenAt x (len + 3) (meaning.character (get_or value 0 0))) (two_is 35 34 bytes (omega arith) (omega arith) first second)
-        (character_token (drop 2 bytes) (take len (drop 2 bytes)) r.parts c.0 c.1 c.2 (get_or value 0 0) (r.values_are ∙ single value (character_one q)) (len + 3) (omega arith))
+      (character_token (drop 2 bytes) (take len (drop 2 bytes)) r.parts c.0 c.1 c.2 (get_or value 0 0) (r.values_are ∙ single value (character_one q)) (len + 3) (omega arith))

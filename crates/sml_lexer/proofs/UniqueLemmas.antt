@@ -1,8 +1,8 @@
 -- At one place stands one thing: a gap, a token or faults.
-use Rattle.std.proofs.Common.{◌≡◌, ◌≢◌, ℕ, zero, suc, ◌+◌, ◌-◌, ◌<◌, ◌≤◌, Bool, true, false, ◌||◌, cond, eqb, ltb, List, [], ◌∷◌, ◌++◌, Option, Some, None, length, take, drop, get_or, map, ℤ, refl, sym, ap, ◌∙◌, subst, arith, ◌⊎◌, inl, inr}
-use Rattle.std.specs.List.{AllByRecursion, prefix_len}
-use Rattle.std.proofs.lemmas.List.{append_assoc, length-append, append-nil, append_cancel_left, append_cancel_right, take_at, drop_at}
-use Rattle.std.proofs.lemmas.Bool.{or_cases, eqb-true, and_left, and_right, cond-true, cond-false, ne_eqb, le-ltb}
+use Rattle.std.proofs.Common.{◌≡◌, ◌≢◌, ℕ, suc, ◌≤◌, true, false, ◌||◌, eqb, List, [], ◌∷◌, ◌++◌, Some, None, length, take, drop, get_or, map, refl, sym, ap, ◌∙◌, subst, arith, ◌⊎◌, inl, inr}
+use Rattle.std.specs.List.{AllByRecursion}
+use Rattle.std.proofs.lemmas.List.{append_assoc, length-append, append-nil, take_at, drop_at}
+use Rattle.std.proofs.lemmas.Bool.{or_cases, eqb-true, and_left, and_right, cond-false, ne_eqb, le-ltb}
 use Rattle.sml_lexer.specs.declared.plain.Found.{Found}
 use Rattle.sml_lexer.specs.declared.plain.Class.TheVariants.{Word}
 use Rattle.sml_lexer.specs.declared.quoted.Ending.TheVariants as ending
@@ -18,14 +18,12 @@ use Rattle.sml_lexer.specs.Meanings as meaning
 use Rattle.sml_lexer.specs.PlainScan.{plain_at, point_at, word_of}
 use Rattle.sml_lexer.specs.Quoted.{Part, AreParts, characters, has_wide, character_count}
 use Rattle.sml_lexer.specs.Quoted as quoted
-use Rattle.sml_lexer.specs.QuotedRead.{has_stray, Ends}
+use Rattle.sml_lexer.specs.QuotedRead.{has_stray}
 use Rattle.sml_lexer.specs.Reserved.{reserved_of}
 use Rattle.sml_lexer.specs.Spellings.{Spells}
-use Rattle.sml_lexer.specs.Spellings as spellings
 use Rattle.sml_lexer.specs.Tokens.{Opening, FailsAt, StandsAs, IsAllowed, IsLongest, OpensMore}
 use Rattle.sml_lexer.specs.Tokens as tokens
 use Rattle.sml_lexer.proofs.CommentLemmas.{comment_is}
-use Rattle.sml_lexer.proofs.FoundLemmas.{IsFound, IsMost}
 use Rattle.sml_lexer.proofs.PlainLemmas.{at_point}
 use Rattle.sml_lexer.proofs.PlainMost.{Quoted, string, character, Most, plain_found, plain_most}
 use Rattle.sml_lexer.proofs.StageLemmas.{IsWhole, front, one_end}
@@ -52,15 +50,19 @@ space_scan c s h = go (or_cases _ _ h)
   where
     at : (d : ℕ) → c ≡ d → plain_at (d ∷ s) ≡ None → plain_at (c ∷ s) ≡ None
     at d e k = ap (λ x. plain_at (x ∷ s)) e ∙ k
+
     first : (eqb c 32 ≡ true) ⊎ (eqb c 9 ≡ true) → plain_at (c ∷ s) ≡ None
     first (inl q) = at 32 (eqb-true _ _ q) (blank 32 s refl refl (omega arith) (omega arith) refl (omega arith) refl)
     first (inr q) = at 9 (eqb-true _ _ q) (blank 9 s refl refl (omega arith) (omega arith) refl (omega arith) refl)
+
     second : ((eqb c 32 || eqb c 9) ≡ true) ⊎ (eqb c 10 ≡ true) → plain_at (c ∷ s) ≡ None
     second (inl q) = first (or_cases _ _ q)
     second (inr q) = at 10 (eqb-true _ _ q) (blank 10 s refl refl (omega arith) (omega arith) refl (omega arith) refl)
+
     third : ((eqb c 32 || eqb c 9 || eqb c 10) ≡ true) ⊎ (eqb c 12 ≡ true) → plain_at (c ∷ s) ≡ None
     third (inl q) = second (or_cases _ _ q)
     third (inr q) = at 12 (eqb-true _ _ q) (blank 12 s refl refl (omega arith) (omega arith) refl (omega arith) refl)
+
     go : ((eqb c 32 || eqb c 9 || eqb c 10 || eqb c 12) ≡ true) ⊎ (eqb c 13 ≡ true) → plain_at (c ∷ s) ≡ None
     go (inl q) = third (or_cases _ _ q)
     go (inr q) = at 13 (eqb-true _ _ q) (blank 13 s refl refl (omega arith) (omega arith) refl (omega arith) refl)
@@ -90,6 +92,7 @@ not_empty_spelling t m h e = go (plain_most t m h [])
     heads : (get_or (t ++ []) 0 0 ≡ 34) ⊎ ((get_or (t ++ []) 0 0 ≡ 35) × (get_or (t ++ []) 1 0 ≡ 34)) → ⊥
     heads (inl q) = let k = ap (λ (x : List ℕ). get_or (x ++ []) 0 0) e in omega (arith, k, q)
     heads (inr q) = let k = ap (λ (x : List ℕ). get_or (x ++ []) 0 0) e in omega (arith, k, q.0)
+
     go : Quoted t m ⊎ Most t m [] → ⊥
     go (inl z) = heads (quoted_head t [] m z)
     go (inr z) = let x : Some z.answer ≡ None = sym z.is ∙ ap (λ y. plain_at (y ++ [])) e ∙ plain_nil in cc
@@ -105,9 +108,11 @@ token_comment t r s m st e = go (plain_most t m st.spelled r)
         let rest : 42 ∷ s ≡ r = cc in
         subst (λ x. OpensMore (x ∷ []) r) first (subst (OpensMore (40 ∷ [])) rest (tokens.OpensMore.comment s))
     one (c ∷ d ∷ t) n l q = absurd (omega arith)
+
     heads : (get_or (t ++ r) 0 0 ≡ 34) ⊎ ((get_or (t ++ r) 0 0 ≡ 35) × (get_or (t ++ r) 1 0 ≡ 34)) → ⊥
     heads (inl q) = let k = head _ _ e in omega (arith, k, q)
     heads (inr q) = let k = head _ _ e in omega (arith, k, q.0)
+
     go : Quoted t m ⊎ Most t m r → ⊥
     go (inl z) = heads (quoted_head t r m z)
     go (inr z) =
@@ -125,6 +130,7 @@ gap_token s q t r m (gaps.IsGap.space c h) st e = go (plain_most t m st.spelled 
     heads : (get_or (t ++ r) 0 0 ≡ 34) ⊎ ((get_or (t ++ r) 0 0 ≡ 35) × (get_or (t ++ r) 1 0 ≡ 34)) → ⊥
     heads (inl k) = let x : true ≡ false = sym h ∙ ap is_space (head _ _ e ∙ k) ∙ quotes_no_space.0 in cc
     heads (inr k) = let x : true ≡ false = sym h ∙ ap is_space (head _ _ e ∙ k.0) ∙ quotes_no_space.1 in cc
+
     go : Quoted t m ⊎ Most t m r → ⊥
     go (inl z) = heads (quoted_head t r m z)
     go (inr z) = let x : Some z.answer ≡ None = sym z.is ∙ ap plain_at (sym e) ∙ space_scan c q h in cc
@@ -236,7 +242,7 @@ control_quote = refl
 
 -- a clean constant has no fault
 clean_not_faulty : (o rest s codes r : List ℕ) → IsWhole rest s (characters codes) ending.Closed (34 ∷ r) → AllByRecursion (λ n. n ≤ 255) codes → (o ≡ 35 ∷ 34 ∷ [] → character_count (characters codes) ≡ 1)
-  → (k : List ℕ) (why : Trouble) → Faulty o rest (characters codes) ending.Closed k why → ⊥
+    → (k : List ℕ) (why : Trouble) → Faulty o rest (characters codes) ending.Closed k why → ⊥
 clean_not_faulty o rest s codes r w l one k why (control t y qs c a i n e) =
     let (u, us, b, f, g, h) = front rest s (characters codes) ending.Closed (34 ∷ r) w t qs a (c ∷ y) e in
     let nil = no_control u us b (right_false (has_stray qs) (has_stray us) (sym (stray-append qs us) ∙ ap has_stray (sym g) ∙ clean_stray codes)) (34 ∷ r) y c i n h in
@@ -252,11 +258,11 @@ quoted_fault : (t r : List ℕ) (m : Meaning) → Quoted t m → (a k : List ℕ
 quoted_fault t r m (string s codes p l) a k why f e =
     let w : IsWhole (s ++ 34 ∷ r) s (characters codes) ending.Closed (34 ∷ r) = record { bytes_are = refl; parts = p; ends = (r, refl) } in
     clean_not_faulty (34 ∷ []) _ s codes r w l (λ q. absurd (let x = ap length q in omega (arith, x))) k why
-      (faulty (34 ∷ []) (s ++ 34 ∷ r) s (characters codes) ending.Closed (34 ∷ r) w tokens.Opening.string a k why f (e ∙ append_assoc (34 ∷ s) (34 ∷ []) r))
+    (faulty (34 ∷ []) (s ++ 34 ∷ r) s (characters codes) ending.Closed (34 ∷ r) w tokens.Opening.string a k why f (e ∙ append_assoc (34 ∷ s) (34 ∷ []) r))
 quoted_fault t r m (character s n p l) a k why f e =
     let w : IsWhole (s ++ 34 ∷ r) s (characters (n ∷ [])) ending.Closed (34 ∷ r) = record { bytes_are = refl; parts = p; ends = (r, refl) } in
     clean_not_faulty (35 ∷ 34 ∷ []) _ s (n ∷ []) r w (l, tt) (λ q. refl) k why
-      (faulty (35 ∷ 34 ∷ []) (s ++ 34 ∷ r) s (characters (n ∷ [])) ending.Closed (34 ∷ r) w tokens.Opening.character a k why f (e ∙ append_assoc (35 ∷ 34 ∷ s) (34 ∷ []) r))
+    (faulty (35 ∷ 34 ∷ []) (s ++ 34 ∷ r) s (characters (n ∷ [])) ending.Closed (34 ∷ r) w tokens.Opening.character a k why f (e ∙ append_assoc (35 ∷ 34 ∷ s) (34 ∷ []) r))
 
 -- what opens a constant is no other token
 opened : (t r : List ℕ) (m : Meaning) → StandsAs t r m → (o x : List ℕ) → Opening o → o ++ x ≡ t ++ r → Quoted t m
@@ -269,12 +275,14 @@ opened t r m st o x op e = go (plain_most t m st.spelled r)
         let rest : 34 ∷ y ≡ r = cc in
         subst (λ x. OpensMore (x ∷ []) r) first (subst (OpensMore (35 ∷ [])) rest (tokens.OpensMore.constant y))
     one (c ∷ d ∷ t) y n l q = absurd (omega arith)
+
     plain : (o : List ℕ) → Opening o → o ++ x ≡ t ++ r → Most t m r → ⊥
     plain o tokens.Opening.string q z = let k : Some z.answer ≡ None = sym z.is ∙ ap plain_at (sym q) ∙ quote_scan x in cc
     plain o tokens.Opening.character q z =
         let f = hash_scan x z.answer (ap plain_at q ∙ z.is) in
         let b = z.most.bound in
         st.whole (one t x (not_empty_spelling t m st.spelled) (omega arith) q)
+
     go : Quoted t m ⊎ Most t m r → Quoted t m
     go (inl z) = z
     go (inr z) = absurd (plain o op e z)

@@ -1,9 +1,9 @@
 -- Constants behind an optional `~`: integers, words and reals.
-use Rattle.std.proofs.Common.{◌≡◌, ◌≢◌, ℕ, zero, suc, ◌+◌, ◌-◌, ◌<◌, ◌≤◌, Bool, true, false, not, ◌&&◌, ◌||◌, cond, eqb, leb, ltb, List, [], ◌∷◌, ◌++◌, length, take, drop, get_or, ℤ, pos, neg_ℤ, refl, sym, ap, ◌∙◌, subst, arith, ◌⊎◌, inl, inr}
-use Rattle.std.specs.List.{prefix_len, list_all}
-use Rattle.std.proofs.lemmas.List.{append_assoc, length-append, take-append-drop, length-take-le, take_at, drop_at, length-drop, append-nil, take_all}
+use Rattle.std.proofs.Common.{◌≡◌, ◌≢◌, ℕ, ◌+◌, ◌<◌, ◌≤◌, Bool, true, false, ◌&&◌, eqb, leb, ltb, List, [], ◌∷◌, ◌++◌, length, take, drop, get_or, refl, sym, ap, ◌∙◌, subst, arith, ◌⊎◌, inl, inr}
+use Rattle.std.specs.List.{prefix_len}
+use Rattle.std.proofs.lemmas.List.{append_assoc, length-append, take_at, drop_at, length-drop}
 use Rattle.std.proofs.lemmas.List.Sums.{prefix_len-le-length}
-use Rattle.std.proofs.lemmas.Bool.{and_parts, and_from, and_left, and_right, eqb-true, eqb-false, cond-true, cond-false, eq-eqb, ne_eqb, cases_Bool, cases_eq, ltb-true, ltb-false, lt-ltb, le-ltb, leb-true, le-leb, lt-leb}
+use Rattle.std.proofs.lemmas.Bool.{and_parts, and_from, and_left, and_right, eqb-true, cond-true, cond-false, eq-eqb, ne_eqb, cases_Bool, cases_eq, ltb-true, ltb-false, lt-ltb, le-ltb, le-leb}
 use Rattle.sml_lexer.specs.declared.plain.Found.{Found}
 use Rattle.sml_lexer.specs.declared.plain.Class.{Class}
 use Rattle.sml_lexer.specs.declared.plain.Class.TheVariants.{Int, WordLit, Real}
@@ -11,12 +11,12 @@ use Rattle.sml_lexer.specs.declared.bytes.ByteClass.{ByteClass}
 use Rattle.sml_lexer.specs.declared.bytes.ByteClass.TheVariants.{Digit, Hexadecimal}
 use Rattle.sml_lexer.specs.Bytes.{is_digit, is_hexadecimal}
 use Rattle.sml_lexer.specs.Classes.{in_class}
-use Rattle.sml_lexer.specs.Numbers.{AreSome, number_of}
+use Rattle.sml_lexer.specs.Numbers.{AreSome}
 use Rattle.sml_lexer.specs.PlainScan.{prefixed_len, hexadecimal_word_len, real_len, digits_found, number_found, unsigned_at}
-use Rattle.sml_lexer.proofs.RunLemmas.{run-append, run_stop, run_whole, run_all, run_front, run_take}
+use Rattle.sml_lexer.proofs.RunLemmas.{run_stop, run_whole}
 use Rattle.sml_lexer.proofs.ByteLemmas.{digit_range}
 use Rattle.sml_lexer.proofs.WordLemmas.{take_plus}
-use Rattle.sml_lexer.proofs.NumberLemmas.{Front, nothing, some, RealTail, real_front, real_first, real_least, all_some, some_size, some_run, run_least, First, digits_front}
+use Rattle.sml_lexer.proofs.NumberLemmas.{Front, nothing, some, RealTail, real_front, real_first, real_least, all_some, some_size, some_run, run_least, First}
 
 -- a constant without its `~`; a word constant has none
 pub data IsUnsigned : Bool → List ℕ → Class → Type 0 where
@@ -46,6 +46,7 @@ prefixed_is letter class (a ∷ b ∷ s) = go (cases_Bool test)
   where
     test : Bool
     test = leb 2 (length (a ∷ b ∷ s)) && eqb a 48 && eqb b letter
+
     go : (test ≡ true) ⊎ (test ≡ false) → Prefixed (48 ∷ letter ∷ []) (in_class class) (a ∷ b ∷ s) (prefixed_len letter class (a ∷ b ∷ s))
     go (inl h) =
         let (h01, h2) = and_parts _ _ h in
@@ -63,6 +64,7 @@ word_prefixed_is (a ∷ b ∷ c ∷ s) = go (cases_Bool test)
   where
     test : Bool
     test = leb 3 (length (a ∷ b ∷ c ∷ s)) && eqb a 48 && eqb b 119 && eqb c 120
+
     go : (test ≡ true) ⊎ (test ≡ false) → Prefixed (48 ∷ 119 ∷ 120 ∷ []) is_hexadecimal (a ∷ b ∷ c ∷ s) (hexadecimal_word_len (a ∷ b ∷ c ∷ s))
     go (inl h) =
         let (h012, h3) = and_parts _ _ h in
@@ -79,7 +81,7 @@ pub record IsFoundAs (negative : Bool) (s : List ℕ) (f : Found) : Type 0 where
   pub is : IsUnsigned negative (take f.len s) f.class
 
 prefix_found : (negative : Bool) (pre : List ℕ) (p : ℕ → Bool) (s r : List ℕ) (class : Class) → s ≡ pre ++ r → prefix_len p r ≢ 0 → ((t : List ℕ) → AreSome p t → IsUnsigned negative (pre ++ t) class)
-  → IsFoundAs negative s (record { len = length pre + prefix_len p r; class = class })
+    → IsFoundAs negative s (record { len = length pre + prefix_len p r; class = class })
 prefix_found negative pre p s r class e z make =
     let l = ap length e ∙ length-append pre r in
     let b = prefix_len-le-length p r in
@@ -91,16 +93,19 @@ digits_are negative s z = go (real_front (drop n s))
   where
     n : ℕ
     n = prefix_len is_digit s
+
     r : ℕ
     r = real_len (drop (prefix_len is_digit s) s)
+
     b : n ≤ length s
     b = prefix_len-le-length is_digit s
+
     go : Front RealTail (drop n s) r → IsFoundAs negative s (digits_found n r)
     go (nothing y) = subst (IsFoundAs negative s) (sym (cond-false _ _ _ (le-ltb 0 r (omega arith)))) (record { some = z; within = b; is = digits negative _ (some_run is_digit s z) })
     go (some y c q) =
         let l = length-drop n s in
         subst (IsFoundAs negative s) (sym (cond-true _ _ _ (lt-ltb 0 r (omega (arith, y)))))
-          (record { some = omega (arith, z); within = omega (arith, b, c); is = subst (λ x. IsUnsigned negative x Real) (sym (take_plus n r s b)) (real negative _ _ (some_run is_digit s z) q) })
+        (record { some = omega (arith, z); within = omega (arith, b, c); is = subst (λ x. IsUnsigned negative x Real) (sym (take_plus n r s b)) (real negative _ _ (some_run is_digit s z) q) })
 
 pub unsigned_is : (negative : Bool) (s : List ℕ) → prefix_len is_digit s ≢ 0 → IsFoundAs negative s (unsigned_at negative s)
 unfolding unsigned_at
@@ -108,26 +113,31 @@ unsigned_is negative s z = go negative (prefixed_is 120 Hexadecimal s) (word_pre
   where
     h : ℕ
     h = prefixed_len 120 Hexadecimal s
+
     x : ℕ
     x = hexadecimal_word_len s
+
     w : ℕ
     w = prefixed_len 119 Digit s
+
     d : Found
     d = digits_found (prefix_len is_digit s) (real_len (drop (prefix_len is_digit s) s))
+
     zero_not : (n : ℕ) → n ≡ 0 → ltb 0 n ≡ false
     zero_not n e = le-ltb 0 n (omega arith)
+
     go : (negative : Bool) → Prefixed (48 ∷ 120 ∷ []) is_hexadecimal s h → Prefixed (48 ∷ 119 ∷ 120 ∷ []) is_hexadecimal s x → Prefixed (48 ∷ 119 ∷ []) is_digit s w
-      → IsFoundAs negative s (number_found negative h x w (prefix_len is_digit s) (real_len (drop (prefix_len is_digit s) s)))
+        → IsFoundAs negative s (number_found negative h x w (prefix_len is_digit s) (real_len (drop (prefix_len is_digit s) s)))
     go negative (present r e n ne) _ _ =
         subst (IsFoundAs negative s) (sym (cond-true _ _ _ (lt-ltb 0 h (omega (arith, ne))) ∙ ap (λ k. record { len = 2 + k; class = Int }) n))
-          (prefix_found negative (48 ∷ 120 ∷ []) is_hexadecimal s r Int e (λ q. ne (n ∙ q)) (λ t a. hexadecimal negative t a))
+        (prefix_found negative (48 ∷ 120 ∷ []) is_hexadecimal s r Int e (λ q. ne (n ∙ q)) (λ t a. hexadecimal negative t a))
     go true (absent a) _ _ = subst (IsFoundAs true s) (sym (cond-false _ _ _ (zero_not h a))) (digits_are true s z)
     go false (absent a) (present r e n ne) _ =
         subst (IsFoundAs false s) (sym (cond-false _ _ _ (zero_not h a) ∙ cond-true _ _ _ (lt-ltb 0 x (omega (arith, ne))) ∙ ap (λ k. record { len = 3 + k; class = WordLit }) n))
-          (prefix_found false (48 ∷ 119 ∷ 120 ∷ []) is_hexadecimal s r WordLit e (λ q. ne (n ∙ q)) (λ t a. hexadecimal_word t a))
+        (prefix_found false (48 ∷ 119 ∷ 120 ∷ []) is_hexadecimal s r WordLit e (λ q. ne (n ∙ q)) (λ t a. hexadecimal_word t a))
     go false (absent a) (absent b) (present r e n ne) =
         subst (IsFoundAs false s) (sym (cond-false _ _ _ (zero_not h a) ∙ cond-false _ _ _ (zero_not x b) ∙ cond-true _ _ _ (lt-ltb 0 w (omega (arith, ne))) ∙ ap (λ k. record { len = 2 + k; class = WordLit }) n))
-          (prefix_found false (48 ∷ 119 ∷ []) is_digit s r WordLit e (λ q. ne (n ∙ q)) (λ t a. word t a))
+        (prefix_found false (48 ∷ 119 ∷ []) is_digit s r WordLit e (λ q. ne (n ∙ q)) (λ t a. word t a))
     go false (absent a) (absent b) (absent c) =
         subst (IsFoundAs false s) (sym (cond-false _ _ _ (zero_not h a) ∙ cond-false _ _ _ (zero_not x b) ∙ cond-false _ _ _ (zero_not w c))) (digits_are false s z)
 
@@ -157,9 +167,11 @@ found_least t negative h x w d r oh ox ow l = go negative (cases_ltb h) (cases_l
   where
     on : (n : ℕ) → Type 0
     on n = ((ltb 0 n ≡ true) × (n ≢ 0)) ⊎ ((ltb 0 n ≡ false) × (n ≡ 0))
+
     digits_end : on r → IsMostAs t Int (digits_found d r)
     digits_end (inl (b, ne)) = subst (IsMostAs t Int) (sym (cond-true _ _ _ b)) (record { bound = omega arith; same = λ e. absurd (omega (arith, ne, e)) })
     digits_end (inr (b, z)) = subst (IsMostAs t Int) (sym (cond-false _ _ _ b)) (record { bound = l; same = λ e. refl })
+
     go : (negative : Bool) → on h → on x → on w → on r → IsMostAs t Int (number_found negative h x w d r)
     go negative (inl (b, ne)) _ _ _ = subst (IsMostAs t Int) (sym (cond-true _ _ _ b)) (record { bound = let o = oh ne in omega arith; same = λ e. refl })
     go true (inr (b, z)) _ _ q = subst (IsMostAs t Int) (sym (cond-false _ _ _ b)) (digits_end q)
@@ -244,28 +256,39 @@ real_most negative s t more h q = go negative
   where
     x : List ℕ
     x = (s ++ t) ++ more
+
     f : (c : ℕ) × (r : List ℕ) × First t c r
     f = real_first t q
+
     b : (get_or x 1 0 ≢ 120) × (get_or x 1 0 ≢ 119)
     b = second_byte s t more h f.0 f.1 f.2
+
     run : prefix_len is_digit x ≡ length s
     run = ap (prefix_len is_digit) (append_assoc s t more) ∙ ap (λ y. prefix_len is_digit (s ++ (y ++ more))) f.2.is ∙ run_whole is_digit s f.0 (f.1 ++ more) (all_some is_digit s h) f.2.other
+
     left : drop (prefix_len is_digit x) x ≡ t ++ more
     left = ap (λ n. drop n x) run ∙ ap (drop (length s)) (append_assoc s t more) ∙ drop_at s (t ++ more) (length s) refl
+
     least : length t ≤ real_len (drop (prefix_len is_digit x) x)
     least = let l = real_least t more q in let e = ap real_len left in omega (arith, e)
+
     size : 0 < length t
     size = let e = ap length f.2.is in omega arith
+
     most : IsMostAs (s ++ t) Real (digits_found (prefix_len is_digit x) (real_len (drop (prefix_len is_digit x) x)))
     most =
         let k = length-append s t in
         subst (IsMostAs (s ++ t) Real) (sym (cond-true _ _ _ (positive (real_len (drop (prefix_len is_digit x) x)) (omega (arith, least, size))))) (record { bound = omega (arith, run, least); same = λ e. refl })
+
     no_h : ltb 0 (prefixed_len 120 Hexadecimal x) ≡ false
     no_h = zero_not _ (prefixed_other 120 Hexadecimal x b.0)
+
     no_x : ltb 0 (hexadecimal_word_len x) ≡ false
     no_x = zero_not _ (word_second x b.1)
+
     no_w : ltb 0 (prefixed_len 119 Digit x) ≡ false
     no_w = zero_not _ (prefixed_other 119 Digit x b.1)
+
     go : (negative : Bool) → IsMostAs (s ++ t) Real (number_found negative (prefixed_len 120 Hexadecimal x) (hexadecimal_word_len x) (prefixed_len 119 Digit x) (prefix_len is_digit x) (real_len (drop (prefix_len is_digit x) x)))
     go true = subst (IsMostAs (s ++ t) Real) (sym (cond-false _ _ _ no_h)) most
     go false = subst (IsMostAs (s ++ t) Real) (sym (cond-false _ _ _ no_h ∙ cond-false _ _ _ no_x ∙ cond-false _ _ _ no_w)) most

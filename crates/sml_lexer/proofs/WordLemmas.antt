@@ -1,22 +1,21 @@
 -- Identifiers and long identifiers.
-use Rattle.std.proofs.Common.{◌≡◌, ◌≢◌, ℕ, zero, suc, ◌+◌, ◌-◌, ◌<◌, ◌≤◌, Bool, true, false, cond, eqb, List, [], ◌∷◌, ◌++◌, Option, Some, None, length, take, drop, get_or, refl, sym, ap, ◌∙◌, subst, arith, ◌⊎◌, inl, inr}
+use Rattle.std.proofs.Common.{◌≡◌, ◌≢◌, ℕ, zero, suc, ◌+◌, ◌≤◌, true, false, List, [], ◌∷◌, ◌++◌, Option, Some, None, length, take, drop, get_or, refl, sym, ap, ◌∙◌, subst, arith, ◌⊎◌, inl, inr}
 use Rattle.std.specs.Prelude.{is_some}
 use Rattle.std.specs.List.{prefix_len, list_all}
-use Rattle.std.proofs.lemmas.List.{append_assoc, length-append, append-nil, take-append-drop, length-take-le, take_at, drop_at, length-drop}
+use Rattle.std.proofs.lemmas.List.{append_assoc, length-append, take-append-drop, length-take-le, take_at, drop_at, length-drop}
 use Rattle.std.proofs.lemmas.List.Sums.{prefix_len-le-length}
-use Rattle.std.proofs.lemmas.Bool.{and_parts, and_from, eqb-true, cond-true, cond-false, eq-eqb, ne_eqb, cases_Bool, cases_eq}
+use Rattle.std.proofs.lemmas.Bool.{and_parts, and_from, cond-true, cond-false, eq-eqb, cases_Bool, cases_eq}
 use Rattle.sml_lexer.specs.declared.plain.AfterDot.{AfterDot}
-use Rattle.sml_lexer.specs.Bytes.{is_letter, is_digit, is_alphanumeric, is_sign}
+use Rattle.sml_lexer.specs.Bytes.{is_letter, is_alphanumeric, is_sign}
 use Rattle.sml_lexer.specs.Numbers.{AreSome}
-use Rattle.sml_lexer.specs.declared.reserved.Reserved.{Reserved}
-use Rattle.sml_lexer.specs.Reserved.{IsReserved, reserved_of}
+use Rattle.sml_lexer.specs.Reserved.{reserved_of}
 use Rattle.sml_lexer.specs.Spellings.{IsAlphanumeric, IsIdentifier, IsSymbol, IsAfterDot, IsLong}
 use Rattle.sml_lexer.specs.Spellings as spellings
 use Rattle.sml_lexer.specs.PlainScan.{kept, part_at, dots, joined}
-use Rattle.sml_lexer.proofs.RunLemmas.{run-append, run_stop, run_whole, run_all, run_front, run_take}
-use Rattle.sml_lexer.proofs.ByteLemmas.{letter_alphanumeric, letter_range, sign_not_letter, alphanumeric_range}
+use Rattle.sml_lexer.proofs.RunLemmas.{run-append, run_whole, run_front}
+use Rattle.sml_lexer.proofs.ByteLemmas.{letter_alphanumeric, sign_not_letter}
 use Rattle.sml_lexer.proofs.PlainScanLemmas.{dots_stop, joined_nothing, joined_last, joined_more}
-use Rattle.sml_lexer.proofs.ReservedLemmas.{free_from_none, none_from_free, reserved_found}
+use Rattle.sml_lexer.proofs.ReservedLemmas.{free_from_none, none_from_free}
 
 pub some_or_none : {A : Type 0} (o : Option A) → (is_some o ≡ true) ⊎ ((is_some o ≡ false) × (o ≡ None))
 some_or_none None = inr (refl, refl)
@@ -83,17 +82,18 @@ part_is s = go (cases_Bool (is_letter (get_or s 0 0))) (some_or_none (reserved_o
   where
     n : ℕ
     n = prefix_len is_alphanumeric s
+
     go : (is_letter (get_or s 0 0) ≡ true) ⊎ (is_letter (get_or s 0 0) ≡ false) → (is_some (reserved_of (take n s)) ≡ true) ⊎ ((is_some (reserved_of (take n s)) ≡ false) × (reserved_of (take n s) ≡ None)) → (n ≡ 0) ⊎ (n ≢ 0) → PartIs s (part_at s)
     go (inl l) (inl r) _ =
         subst (PartIs s) (sym (cond-true _ _ _ l ∙ cond-true _ _ _ r))
-          (kept_part s n (prefix_len-le-length is_alphanumeric s) (λ k z b e. spellings.IsAfterDot.identifier _ (record { spelled = alphanumeric_front s k l z b; free = free_from_none _ e })))
+        (kept_part s n (prefix_len-le-length is_alphanumeric s) (λ k z b e. spellings.IsAfterDot.identifier _ (record { spelled = alphanumeric_front s k l z b; free = free_from_none _ e })))
     go (inl l) (inr r) (inl z) = subst (PartIs s) (sym (cond-true _ _ _ l ∙ cond-false _ _ _ r.0)) (nothing z)
     go (inl l) (inr r) (inr z) =
         subst (PartIs s) (sym (cond-true _ _ _ l ∙ cond-false _ _ _ r.0))
-          (on z refl (record { spelled = alphanumeric_front s n l z (omega arith); free = free_from_none _ r.1 }) (prefix_len-le-length is_alphanumeric s))
+        (on z refl (record { spelled = alphanumeric_front s n l z (omega arith); free = free_from_none _ r.1 }) (prefix_len-le-length is_alphanumeric s))
     go (inr l) _ _ =
         subst (PartIs s) (sym (cond-false _ _ _ l))
-          (kept_part s (prefix_len is_sign s) (prefix_len-le-length is_sign s) (λ k z b e. spellings.IsAfterDot.symbol _ (record { spelled = sign_front s k z b; free = free_from_none _ e })))
+        (kept_part s (prefix_len is_sign s) (prefix_len-le-length is_sign s) (λ k z b e. spellings.IsAfterDot.symbol _ (record { spelled = sign_front s k z b; free = free_from_none _ e })))
 
 -- a row of dots is a dot and what may follow it
 pub data DotsAre (s : List ℕ) (n : ℕ) : Type 0 where
@@ -171,12 +171,16 @@ part_identifier t more i = record { fits = go (some_or_none (reserved_of (take n
   where
     n : ℕ
     n = prefix_len is_alphanumeric (t ++ more)
+
     enough : length t ≤ n
     enough = let e = run-append is_alphanumeric t more (all_alphanumeric t i.spelled) in omega (arith, e)
+
     l : is_letter (get_or (t ++ more) 0 0) ≡ true
     l = letter_first t more i.spelled
+
     free : reserved_of (take (length t) (t ++ more)) ≡ None
     free = ap reserved_of (take_at t more (length t) refl) ∙ none_from_free t i.free
+
     go : (is_some (reserved_of (take n (t ++ more))) ≡ true) ⊎ ((is_some (reserved_of (take n (t ++ more))) ≡ false) × (reserved_of (take n (t ++ more)) ≡ None)) → length t ≤ (part_at (t ++ more)).len
     go (inl r) = subst (λ (p : AfterDot). length t ≤ p.len) (sym (cond-true _ _ _ l ∙ cond-true _ _ _ r)) (kept_most (t ++ more) n (length t) enough free)
     go (inr r) = subst (λ (p : AfterDot). length t ≤ p.len) (sym (cond-true _ _ _ l ∙ cond-false _ _ _ r.0)) enough
@@ -198,7 +202,7 @@ unfolding part_at
 part_dotted q more i =
     let e = run_whole is_alphanumeric q 46 more (all_alphanumeric q i.spelled) dot_stops in
     let free : is_some (reserved_of (take (prefix_len is_alphanumeric (q ++ 46 ∷ more)) (q ++ 46 ∷ more))) ≡ false =
-          ap (λ n. is_some (reserved_of (take n (q ++ 46 ∷ more)))) e ∙ ap (λ x. is_some (reserved_of x)) (take_at q (46 ∷ more) (length q) refl) ∙ ap is_some (none_from_free q i.free) in
+    ap (λ n. is_some (reserved_of (take n (q ++ 46 ∷ more)))) e ∙ ap (λ x. is_some (reserved_of x)) (take_at q (46 ∷ more) (length q) refl) ∙ ap is_some (none_from_free q i.free) in
     cond-true _ _ _ (letter_first q (46 ∷ more) i.spelled) ∙ cond-false _ _ _ free ∙ ap (λ n. record { len = n; goes_on = true }) e
 
 joined_least : (n : ℕ) (p : AfterDot) (r : ℕ) → PartFits n p → 1 + n ≤ joined p r
@@ -206,6 +210,7 @@ joined_least n p r f = go (cases_Bool p.goes_on)
   where
     ne : p.len ≢ 0
     ne = let h = f.fits in let k = f.some in omega (arith, k)
+
     go : (p.goes_on ≡ true) ⊎ (p.goes_on ≡ false) → 1 + n ≤ joined p r
     go (inl g) = let e = joined_more p r ne g in let h = f.fits in omega arith
     go (inr g) = let e = joined_last p r ne g in let h = f.fits in omega arith

@@ -1,5 +1,5 @@
 -- Classes of bytes.
-use Rattle.std.specs.Prelude.{ℕ, ◌-◌, Bool, ◌||◌, ◌&&◌, ◌==◌, nat_eq, nat_le, nat_lt, codes, if◌then◌else◌, List, [], ◌∷◌}
+use Rattle.std.specs.Prelude.{ℕ, Bool, ◌||◌, ◌&&◌, ◌==◌, nat_eq, nat_le, nat_lt, codes}
 use Rattle.std.specs.List.{list_any}
 
 unfoldable pub is_letter : ℕ → Bool
@@ -25,4 +25,3 @@ is_space c = c == 32 || c == 9 || c == 10 || c == 12 || c == 13
 
 unfoldable pub is_control : ℕ → Bool
 is_control c = nat_lt c 32 || c == 127
-

@@ -1,5 +1,5 @@
 -- What tokens cite.
-use Rattle.std.specs.Prelude.{ℕ, ◌<◌, ◌&&◌, Bool, true, List, nat_lt, pos, neg_ℤ, ◌^◌, ◌-◌, int_le}
+use Rattle.std.specs.Prelude.{ℕ, ◌&&◌, Bool, true, List, nat_lt, pos, neg_ℤ, ◌^◌, ◌-◌, int_le}
 use Rattle.std.specs.List.{list_all}
 use Rattle.sml_lexer.specs.declared.token.Token.{Token}
 use Rattle.sml_lexer.specs.declared.token.TokenKind.{TokenKind}

@@ -1,5 +1,5 @@
 -- Where the bytes behind the `(*` of a comment close it.
-use Rattle.std.specs.Prelude.{ℕ, suc, ◌+◌, ◌-◌, ◌&&◌, ◌==◌, List, [], ◌∷◌, Option, Some, None, if◌then◌else◌, option_map, slice_index}
+use Rattle.std.specs.Prelude.{ℕ, ◌+◌, ◌-◌, ◌&&◌, ◌==◌, List, [], ◌∷◌, Option, Some, None, if◌then◌else◌, option_map, slice_index}
 use Rattle.sml_lexer.specs.declared.comment.Mark.{Mark}
 use Rattle.sml_lexer.specs.declared.comment.Mark.TheVariants.{Open, Close, Neither}
 
@@ -22,6 +22,6 @@ close_at depth [] = None
 close_at depth (c ∷ []) = None
 close_at depth (c ∷ d ∷ s) =
     by_mark (mark_at (c ∷ d ∷ s))
-      (shifted 2 (close_at (depth + 1) s))
-      (if depth == 0 then Some 2 else shifted 2 (close_at (depth - 1) s))
-      (shifted 1 (close_at depth (d ∷ s)))
+    (shifted 2 (close_at (depth + 1) s))
+    (if depth == 0 then Some 2 else shifted 2 (close_at (depth - 1) s))
+    (shifted 1 (close_at depth (d ∷ s)))

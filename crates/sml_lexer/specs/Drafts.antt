@@ -1,6 +1,5 @@
 -- What reading a file adds to a draft.
-use Rattle.std.specs.Prelude.{◌≡◌, ℕ, ◌+◌, ◌≤◌, List, [], ◌∷◌, ◌++◌, length, Some}
-use Rattle.std.specs.Vec.{vec_len}
+use Rattle.std.specs.Prelude.{◌≡◌, ℕ, List, [], ◌∷◌, ◌++◌, length, Some}
 use Rattle.smlc_base.specs.declared.place.Place.{Place}
 use Rattle.smlc_base.specs.declared.refusal.CompileError.{CompileError}
 use Rattle.smlc_base.specs.declared.refusal.CompileError.TheVariants as error
@@ -13,7 +12,7 @@ use Rattle.sml_lexer.specs.declared.step.Trouble.TheVariants.{BadToken, Unclosed
 use Rattle.sml_lexer.specs.declared.token.Token.{Token}
 use Rattle.sml_lexer.specs.Numbers.{is_numeral}
 use Rattle.sml_lexer.specs.Places.{place_behind}
-use Rattle.sml_lexer.specs.Shown.{meaning_in, ShowAll, Extends}
+use Rattle.sml_lexer.specs.Shown.{meaning_in, ShowAll}
 use Rattle.sml_lexer.specs.Steps.{kind_meaning}
 use Rattle.sml_lexer.specs.Tokens.{Lexeme, AreTokens, Fault, IsFirstFault}
 

@@ -23,7 +23,7 @@ limit = 1048576
 pub data AreFiles (names texts : List (List ℕ)) : ℕ → List (List ℕ) → List Token → Type 0 where
   none : (n : ℕ) → AreFiles names texts n [] []
   file : (n : ℕ) (bytes : List ℕ) (files : List (List ℕ)) (ts us : List Token) (ls : List Lexeme) → AreTokens bytes ls → ShowAll n names texts ts ls → AreFiles names texts (suc n) files us
-    → AreFiles names texts n (bytes ∷ files) (ts ++ us)
+      → AreFiles names texts n (bytes ∷ files) (ts ++ us)
 
 -- the place behind the last byte of the last file, `start` without files
 abbrev pub end_of : Place → ℕ → List (List ℕ) → Place
@@ -38,7 +38,7 @@ HasTokens bytes = (ls : List Lexeme) × AreTokens bytes ls
 pub data IsRefusal (files : List (List ℕ)) : Refusal → Type 0 where
   -- the files pass the limit in this one
   too_long : (before : List (List ℕ)) (file : List ℕ) (after : List (List ℕ)) → files ≡ before ++ file ∷ after → total before ≤ limit → limit < total before + length file
-    → IsRefusal files (refusal.TooLong (record { file = length before + 1; line = 1; col = 1 }))
+      → IsRefusal files (refusal.TooLong (record { file = length before + 1; line = 1; col = 1 }))
   -- they don't, each file before this one has tokens, and this is its first fault
   fault : (before : List (List ℕ)) (file : List ℕ) (after : List (List ℕ)) (f : Fault) → files ≡ before ++ file ∷ after → total files ≤ limit → AllByRecursion HasTokens before → IsFirstFault file f
-    → IsRefusal files (refusal_of f.why (place_behind (length before + 1) f.at))
+      → IsRefusal files (refusal_of f.why (place_behind (length before + 1) f.at))

@@ -1,9 +1,8 @@
 -- What the scanner finds at the front of some bytes, for every token but the constants in quotes.
-use Rattle.std.specs.Prelude.{◌≡◌, ℕ, zero, suc, ◌+◌, Bool, true, false, not, ◌&&◌, ◌||◌, ◌==◌, nat_lt, nat_le, List, [], ◌∷◌, length, take, drop, slice_index, Option, Some, None, is_some, if◌then◌else◌, codes, bytes_eq}
+use Rattle.std.specs.Prelude.{ℕ, zero, suc, ◌+◌, Bool, true, false, not, ◌&&◌, ◌||◌, ◌==◌, nat_lt, nat_le, List, length, take, drop, slice_index, Option, Some, None, is_some, if◌then◌else◌}
 use Rattle.std.specs.List.{prefix_len}
 use Rattle.sml_lexer.specs.declared.plain.Found.{Found}
 use Rattle.sml_lexer.specs.declared.plain.AfterDot.{AfterDot}
-use Rattle.sml_lexer.specs.declared.plain.Class.{Class}
 use Rattle.sml_lexer.specs.declared.plain.Class.TheVariants.{Word, Id, Symbol, Long, TyVar, Int, WordLit, Real}
 use Rattle.sml_lexer.specs.declared.bytes.ByteClass.{ByteClass}
 use Rattle.sml_lexer.specs.declared.bytes.ByteClass.TheVariants.{Digit, Hexadecimal}
@@ -23,8 +22,8 @@ unfoldable pub part_at : List ℕ → AfterDot
 part_at s =
     if is_letter (slice_index s 0)
     then (if is_some (reserved_of (take (prefix_len is_alphanumeric s) s))
-      then record { len = kept s (prefix_len is_alphanumeric s); goes_on = false }
-      else record { len = prefix_len is_alphanumeric s; goes_on = true })
+    then record { len = kept s (prefix_len is_alphanumeric s); goes_on = false }
+    else record { len = prefix_len is_alphanumeric s; goes_on = true })
     else record { len = kept s (prefix_len is_sign s); goes_on = false }
 
 -- a dot, a part after it, and what follows that

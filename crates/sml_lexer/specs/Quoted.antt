@@ -1,5 +1,5 @@
 -- What stands between the quotes of a string or character constant.
-use Rattle.std.specs.Prelude.{◌≡◌, ◌≢◌, ℕ, ◌-◌, ◌≤◌, ◌<◌, Bool, true, false, List, [], ◌∷◌, ◌++◌, length, map, Option, Some, None, if◌then◌else◌, ◌==◌, ◌+◌, nat_lt}
+use Rattle.std.specs.Prelude.{◌≡◌, ◌≢◌, ℕ, ◌-◌, ◌≤◌, Bool, true, false, List, [], ◌∷◌, ◌++◌, length, map, Option, Some, None, if◌then◌else◌, ◌==◌, ◌+◌, nat_lt}
 use Rattle.std.specs.List.{list_all}
 use Rattle.sml_lexer.specs.Bytes.{is_digit, is_hexadecimal, is_space, is_control}
 use Rattle.sml_lexer.specs.Numbers.{AreSome, number_of}

@@ -1,5 +1,5 @@
 -- What the scanner finds in a constant in quotes.
-use Rattle.std.specs.Prelude.{◌≡◌, ◌≢◌, ℕ, ◌+◌, ◌-◌, ◌≤◌, ◌<◌, min, Bool, true, false, ◌&&◌, ◌==◌, nat_le, nat_lt, List, [], ◌∷◌, ◌++◌, length, take, drop, slice_index, Option, Some, None, if◌then◌else◌}
+use Rattle.std.specs.Prelude.{ℕ, ◌+◌, ◌-◌, min, ◌&&◌, ◌==◌, nat_le, List, length, take, drop, slice_index, Option, Some, None, if◌then◌else◌}
 use Rattle.std.specs.List.{prefix_len}
 use Rattle.sml_lexer.specs.declared.quoted.Item.{Item}
 use Rattle.sml_lexer.specs.declared.quoted.Item.TheVariants.{Char, Gap, Control, Close, Open, Unknown}
@@ -35,10 +35,10 @@ unfoldable pub escape_at : List ℕ → Item
 escape_at s =
     if length s == 0 then Open
     else letter_or (letter_escape (slice_index s 0))
-      (if slice_index s 0 == 94 then caret_at (drop 1 s)
-      else (if is_digit (slice_index s 0) then digits_at Digit 10 3 1 s
-      else (if slice_index s 0 == 117 then digits_at Hexadecimal 16 4 2 (drop 1 s)
-      else (if is_space (slice_index s 0) then gap_at s else Unknown))))
+    (if slice_index s 0 == 94 then caret_at (drop 1 s)
+    else (if is_digit (slice_index s 0) then digits_at Digit 10 3 1 s
+    else (if slice_index s 0 == 117 then digits_at Hexadecimal 16 4 2 (drop 1 s)
+    else (if is_space (slice_index s 0) then gap_at s else Unknown))))
 
 -- what stands at the front of bytes behind the opening quote
 unfoldable pub item_at : List ℕ → Item

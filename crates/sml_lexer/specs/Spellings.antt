@@ -1,5 +1,5 @@
 -- The spellings of the tokens, and what each means.
-use Rattle.std.specs.Prelude.{◌≡◌, ◌≢◌, ℕ, ◌≤◌, ℤ, pos, neg_ℤ, true, List, [], ◌∷◌, ◌++◌, ◌⊎◌}
+use Rattle.std.specs.Prelude.{◌≡◌, ℕ, ◌≤◌, pos, neg_ℤ, true, List, [], ◌∷◌, ◌++◌}
 use Rattle.std.specs.List.{list_all, AllByRecursion}
 use Rattle.sml_lexer.specs.declared.reserved.Reserved.{Reserved}
 use Rattle.sml_lexer.specs.Bytes.{is_letter, is_digit, is_hexadecimal, is_alphanumeric, is_sign}

@@ -1,5 +1,5 @@
 -- What stands at a place of a file.
-use Rattle.std.specs.Prelude.{◌≡◌, ◌≢◌, slice_index, ℕ, ◌+◌, ◌≤◌, ◌<◌, Bool, true, false, not, ◌&&◌, ◌==◌, List, length, take, drop, Option, Some, None, if◌then◌else◌, ◌⊎◌}
+use Rattle.std.specs.Prelude.{◌≡◌, ◌≢◌, slice_index, ℕ, ◌+◌, ◌≤◌, ◌<◌, Bool, not, ◌&&◌, ◌==◌, List, length, take, drop, Option, Some, None, if◌then◌else◌, ◌⊎◌}
 use Rattle.sml_lexer.specs.declared.quoted.Ending.{Ending}
 use Rattle.sml_lexer.specs.declared.quoted.Ending.TheVariants as ending
 use Rattle.sml_lexer.specs.declared.step.Kind.{Kind}

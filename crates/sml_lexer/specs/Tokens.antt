@@ -1,8 +1,8 @@
 -- The tokens of a file, and where they fail.
-use Rattle.std.specs.Prelude.{◌≡◌, ◌≢◌, ℕ, ◌≤◌, ◌<◌, ℤ, true, false, List, [], ◌∷◌, ◌++◌, length, ◌⊎◌}
+use Rattle.std.specs.Prelude.{◌≡◌, ◌≢◌, ℕ, ◌≤◌, ◌<◌, ℤ, true, List, [], ◌∷◌, ◌++◌, length, ◌⊎◌}
 use Rattle.sml_lexer.specs.declared.step.Trouble.{Trouble}
 use Rattle.sml_lexer.specs.declared.step.Trouble.TheVariants.{BadToken, Unclosed, LiteralRange}
-use Rattle.sml_lexer.specs.Bytes.{is_control, is_space}
+use Rattle.sml_lexer.specs.Bytes.{is_control}
 use Rattle.sml_lexer.specs.Gaps.{IsGap, IsComment}
 use Rattle.sml_lexer.specs.Meanings.{Meaning, IsInRange}
 use Rattle.sml_lexer.specs.Meanings as meaning
@@ -48,7 +48,7 @@ pub data Behind (P : List ℕ → List ℕ → Type 0) : List ℕ → List ℕ �
   here : (before after : List ℕ) → P before after → Behind P before after []
   gap : (before s rest : List ℕ) (ts : List Lexeme) → IsGap s → Behind P (before ++ s) rest ts → Behind P before (s ++ rest) ts
   token : (before s rest : List ℕ) (m : Meaning) (ts : List Lexeme) → StandsAs s rest m → IsAllowed m → Behind P (before ++ s) rest ts
-    → Behind P before (s ++ rest) (record { before = before; text = s; meaning = m } ∷ ts)
+      → Behind P before (s ++ rest) (record { before = before; text = s; meaning = m } ∷ ts)
 
 -- The tokens of a file.
 abbrev pub AreTokens : List ℕ → List Lexeme → Type 0
@@ -63,7 +63,7 @@ pub data Opening : List ℕ → Type 0 where
 pub data FailsAt : List ℕ → List ℕ → Trouble → Type 0 where
   -- a byte begins no gap and no token, and opens no constant
   stranger : (c : ℕ) (s : List ℕ) → ((t more : List ℕ) → IsGap t → t ++ more ≡ c ∷ s → ⊥) → ((t more : List ℕ) (m : Meaning) → Spells t m → t ++ more ≡ c ∷ s → ⊥) → c ≢ 34
-    → FailsAt (c ∷ s) [] BadToken
+      → FailsAt (c ∷ s) [] BadToken
   -- a comment that nothing closes
   open_comment : (s : List ℕ) → ((t more : List ℕ) → IsComment t → t ++ more ≡ s → ⊥) → FailsAt (40 ∷ 42 ∷ s) [] Unclosed
   -- an integer constant out of its range

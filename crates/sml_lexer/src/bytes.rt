@@ -47,8 +47,26 @@ fn is_alphanumeric(c: u8) -> bool
 pub fn is_sign(c: u8) -> bool
     ensures { result ≡ is_sign c }
 {
-    c == 33 || c == 37 || c == 38 || c == 36 || c == 35 || c == 43 || c == 45 || c == 47 || c == 58 || c == 60
-        || c == 61 || c == 62 || c == 63 || c == 64 || c == 92 || c == 126 || c == 96 || c == 94 || c == 124 || c == 42
+    c == 33
+        || c == 37
+        || c == 38
+        || c == 36
+        || c == 35
+        || c == 43
+        || c == 45
+        || c == 47
+        || c == 58
+        || c == 60
+        || c == 61
+        || c == 62
+        || c == 63
+        || c == 64
+        || c == 92
+        || c == 126
+        || c == 96
+        || c == 94
+        || c == 124
+        || c == 42
 }
 
 #[tactic(auto, unfolding(crate::specs::Bytes::is_space))]

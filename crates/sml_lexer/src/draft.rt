@@ -22,7 +22,13 @@ pub struct Draft {
 }
 
 /// Adds a token with this spelling.
-fn push_token(draft: &mut Draft, kind: Kind, place: Place, at: u32, text: &[u8]) -> Result<(), NoMemory>
+fn push_token(
+    draft: &mut Draft,
+    kind: Kind,
+    place: Place,
+    at: u32,
+    text: &[u8],
+) -> Result<(), NoMemory>
     requires names { length draft.old.names < 2 ^ 32 }
     requires texts { vec_len draft.old.texts < 2 ^ 32 }
     requires text { length text.now < 2 ^ 32 }
@@ -36,7 +42,13 @@ fn push_token(draft: &mut Draft, kind: Kind, place: Place, at: u32, text: &[u8])
     let numeral = is_numeral(text);
     let len = text.len() as u32;
     let kind = stored(kind, text, &mut draft.names, &mut draft.texts)?;
-    draft.tokens.push(Token { kind, place, at, len, numeral })?;
+    draft.tokens.push(Token {
+        kind,
+        place,
+        at,
+        len,
+        numeral,
+    })?;
     Ok(())
 }
 
@@ -51,7 +63,12 @@ fn refusal(trouble: Trouble, place: Place) -> Refusal
 }
 
 /// Adds the tokens of a file, and answers the place behind its last byte.
-pub fn file_tokens(alloc: Global, file: u32, bytes: &[u8], draft: &mut Draft) -> Result<Place, CompileError>
+pub fn file_tokens(
+    alloc: Global,
+    file: u32,
+    bytes: &[u8],
+    draft: &mut Draft,
+) -> Result<Place, CompileError>
     requires tokens { vec_len draft.old.tokens + length bytes.now ≤ 1048576 }
     requires names { length draft.old.names + length bytes.now ≤ 1048576 }
     requires texts { vec_len draft.old.texts + length bytes.now ≤ 1048576 }
@@ -64,7 +81,11 @@ pub fn file_tokens(alloc: Global, file: u32, bytes: &[u8], draft: &mut Draft) ->
     ensures text_count { vec_len draft.new.texts ≤ vec_len draft.old.texts + length bytes.now }
 {
     let mut at = 0usize;
-    let mut place = Place { file, line: 1, col: 1 };
+    let mut place = Place {
+        file,
+        line: 1,
+        col: 1,
+    };
     'steps: while at < bytes.len() {
         let left = rest(bytes, at);
         match step_at(alloc, left)? {

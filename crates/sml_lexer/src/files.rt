@@ -39,7 +39,11 @@ pub fn tokens(alloc: Global, files: &[Vec<u8>]) -> Result<Lexed, CompileError>
 {
     match too_long(files) {
         Some(i) => {
-            let place = Place { file: i as u32 + 1, line: 1, col: 1 };
+            let place = Place {
+                file: i as u32 + 1,
+                line: 1,
+                col: 1,
+            };
             return Err(CompileError::Refused(Refusal::TooLong(place)));
         }
         None => {}
@@ -49,14 +53,22 @@ pub fn tokens(alloc: Global, files: &[Vec<u8>]) -> Result<Lexed, CompileError>
         names: Names::new(alloc),
         texts: Vec::new(alloc),
     };
-    let mut end = Place { file: 0, line: 1, col: 1 };
+    let mut end = Place {
+        file: 0,
+        line: 1,
+        col: 1,
+    };
     for (i, file) in files.iter().enumerate() {
         match file_tokens(alloc, i as u32 + 1, file.as_slice(), &mut draft) {
             Ok(place) => end = place,
             Err(e) => return Err(e),
         }
     }
-    let Draft { tokens, names, texts } = draft;
+    let Draft {
+        tokens,
+        names,
+        texts,
+    } = draft;
     let _distinct = names.len();
     Ok(Lexed {
         tokens: Row::from_vec(tokens),

@@ -31,7 +31,10 @@ pub fn number(base: u64, digits: &[u8]) -> u64
 {
     let mut value = 0u64;
     for c in digits {
-        value = value.saturating_mul(base).saturating_add(digit_value(*c)).min(LIMIT);
+        value = value
+            .saturating_mul(base)
+            .saturating_add(digit_value(*c))
+            .min(LIMIT);
     }
     value
 }
@@ -54,10 +57,18 @@ pub fn integer(text: &[u8]) -> Option<i64>
 {
     if text.len() >= 1 && text[0] == b'~' {
         let value = magnitude(&text[1..]);
-        if value < LIMIT { Some(-(value as i64)) } else { None }
+        if value < LIMIT {
+            Some(-(value as i64))
+        } else {
+            None
+        }
     } else {
         let value = magnitude(text);
-        if value < LIMIT - 1 { Some(value as i64) } else { None }
+        if value < LIMIT - 1 {
+            Some(value as i64)
+        } else {
+            None
+        }
     }
 }
 

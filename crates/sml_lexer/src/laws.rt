@@ -7,5 +7,4 @@ ghost use Rattle.sml_lexer.specs.Tokens.{Lexeme, AreTokens, Fault, Fails};
 pub fn one_reading()
     ensures tokens { (file : List ℕ) (ts us : List Lexeme) → AreTokens file ts → AreTokens file us → ts ≡ us }
     ensures faults { (file : List ℕ) (ts : List Lexeme) (fault : Fault) → AreTokens file ts → Fails file fault → ⊥ }
-{
-}
+{}

@@ -15,9 +15,17 @@ pub fn advance(place: Place, bytes: &[u8]) -> Place
     let mut place = place;
     for c in bytes {
         if *c == b'\n' {
-            place = Place { file: place.file, line: place.line + 1, col: 1 };
+            place = Place {
+                file: place.file,
+                line: place.line + 1,
+                col: 1,
+            };
         } else {
-            place = Place { file: place.file, line: place.line, col: place.col + 1 };
+            place = Place {
+                file: place.file,
+                line: place.line,
+                col: place.col + 1,
+            };
         }
     }
     place

@@ -58,13 +58,19 @@ fn part_at(bytes: &[u8]) -> AfterDot
     if is_letter(first) {
         let len = run(ByteClass::Alphanumeric, bytes);
         if reserved_of(&bytes[..len]).is_some() {
-            AfterDot { len: kept(bytes, len), goes_on: false }
+            AfterDot {
+                len: kept(bytes, len),
+                goes_on: false,
+            }
         } else {
             AfterDot { len, goes_on: true }
         }
     } else {
         let len = run(ByteClass::Sign, bytes);
-        AfterDot { len: kept(bytes, len), goes_on: false }
+        AfterDot {
+            len: kept(bytes, len),
+            goes_on: false,
+        }
     }
 }
 
@@ -96,7 +102,10 @@ fn word_at(bytes: &[u8]) -> Found
 {
     let first = run(ByteClass::Alphanumeric, bytes);
     match reserved_of(&bytes[..first]) {
-        Some(word) => Found { len: first, class: Class::Word(word) },
+        Some(word) => Found {
+            len: first,
+            class: Class::Word(word),
+        },
         None => {
             let len = long_len(bytes, first);
             let class = if len == first { Class::Id } else { Class::Long };
@@ -113,8 +122,14 @@ fn sign_at(bytes: &[u8]) -> Found
 {
     let len = run(ByteClass::Sign, bytes);
     match reserved_of(&bytes[..len]) {
-        Some(word) => Found { len, class: Class::Word(word) },
-        None => Found { len, class: Class::Symbol },
+        Some(word) => Found {
+            len,
+            class: Class::Word(word),
+        },
+        None => Found {
+            len,
+            class: Class::Symbol,
+        },
     }
 }
 
@@ -205,22 +220,37 @@ fn unsigned_at(bytes: &[u8], negative: bool) -> Found
 {
     let hexadecimal = prefixed_len(bytes, b'x', ByteClass::Hexadecimal);
     if hexadecimal > 0 {
-        return Found { len: 2 + hexadecimal, class: Class::Int };
+        return Found {
+            len: 2 + hexadecimal,
+            class: Class::Int,
+        };
     }
     let hexadecimal_word = hexadecimal_word_len(bytes);
     if !negative && hexadecimal_word > 0 {
-        return Found { len: 3 + hexadecimal_word, class: Class::WordLit };
+        return Found {
+            len: 3 + hexadecimal_word,
+            class: Class::WordLit,
+        };
     }
     let word = prefixed_len(bytes, b'w', ByteClass::Digit);
     if !negative && word > 0 {
-        return Found { len: 2 + word, class: Class::WordLit };
+        return Found {
+            len: 2 + word,
+            class: Class::WordLit,
+        };
     }
     let digits = run(ByteClass::Digit, bytes);
     let real = real_len(rest(bytes, digits));
     if real > 0 {
-        Found { len: digits + real, class: Class::Real }
+        Found {
+            len: digits + real,
+            class: Class::Real,
+        }
     } else {
-        Found { len: digits, class: Class::Int }
+        Found {
+            len: digits,
+            class: Class::Int,
+        }
     }
 }
 
@@ -232,7 +262,10 @@ fn negative_at(bytes: &[u8]) -> Found
     ensures bound { result.len ≤ length bytes.now }
 {
     let found = unsigned_at(rest(bytes, 1), true);
-    Found { len: 1 + found.len, class: found.class }
+    Found {
+        len: 1 + found.len,
+        class: found.class,
+    }
 }
 
 /// A reserved word that is one byte or three dots.
@@ -243,10 +276,16 @@ fn point_at(bytes: &[u8]) -> Option<Found>
     ensures bound { IfSome result (λ found. found.len ≤ length bytes.now) }
 {
     if bytes.len() >= 3 && bytes[0] == b'.' && bytes[1] == b'.' && bytes[2] == b'.' {
-        return Some(Found { len: 3, class: Class::Word(Reserved::KwDots) });
+        return Some(Found {
+            len: 3,
+            class: Class::Word(Reserved::KwDots),
+        });
     }
     match reserved_of(&bytes[..1]) {
-        Some(word) => Some(Found { len: 1, class: Class::Word(word) }),
+        Some(word) => Some(Found {
+            len: 1,
+            class: Class::Word(word),
+        }),
         None => None,
     }
 }
@@ -264,7 +303,10 @@ pub fn plain_at(bytes: &[u8]) -> Option<Found>
     } else if is_digit(first) {
         Some(unsigned_at(bytes, false))
     } else if first == b'\'' {
-        Some(Found { len: run(ByteClass::Alphanumeric, bytes), class: Class::TyVar })
+        Some(Found {
+            len: run(ByteClass::Alphanumeric, bytes),
+            class: Class::TyVar,
+        })
     } else if first == b'~' && is_digit(byte_at(bytes, 1)) {
         Some(negative_at(bytes))
     } else if is_sign(first) {

@@ -55,7 +55,10 @@ fn caret_at(bytes: &[u8]) -> Item
     }
     let c = bytes[0];
     if 64 <= c && c <= 95 {
-        Item::Char { code: u64::from(c - 64), len: 3 }
+        Item::Char {
+            code: u64::from(c - 64),
+            len: 3,
+        }
     } else {
         Item::Unknown
     }
@@ -70,7 +73,10 @@ fn digits_at(bytes: &[u8], class: ByteClass, base: u64, count: usize, before: us
 {
     let found = run(class, bytes);
     if found >= count {
-        Item::Char { code: number(base, &bytes[..count]), len: before + count }
+        Item::Char {
+            code: number(base, &bytes[..count]),
+            len: before + count,
+        }
     } else if found == bytes.len() {
         Item::Open
     } else {
@@ -105,7 +111,10 @@ fn escape_at(bytes: &[u8]) -> Item
     }
     let c = bytes[0];
     if let Some(code) = letter_escape(c) {
-        return Item::Char { code: u64::from(code), len: 2 };
+        return Item::Char {
+            code: u64::from(code),
+            len: 2,
+        };
     }
     if c == b'^' {
         caret_at(rest(bytes, 1))
@@ -139,7 +148,10 @@ fn item_at(bytes: &[u8]) -> Item
     } else if c == b'\\' {
         escape_at(rest(bytes, 1))
     } else {
-        Item::Char { code: u64::from(c), len: 1 }
+        Item::Char {
+            code: u64::from(c),
+            len: 1,
+        }
     }
 }
 
@@ -206,13 +218,31 @@ pub fn read_quoted(alloc: Global, bytes: &[u8]) -> Result<Quoted, NoMemory>
                 at += 1;
             }
             Item::Close => {
-                return Ok(Quoted { len: at, value, wide, stray, ending: Ending::Closed });
+                return Ok(Quoted {
+                    len: at,
+                    value,
+                    wide,
+                    stray,
+                    ending: Ending::Closed,
+                });
             }
             Item::Open => {
-                return Ok(Quoted { len: at, value, wide, stray, ending: Ending::Open });
+                return Ok(Quoted {
+                    len: at,
+                    value,
+                    wide,
+                    stray,
+                    ending: Ending::Open,
+                });
             }
             Item::Unknown => {
-                return Ok(Quoted { len: at, value, wide, stray, ending: Ending::Unknown });
+                return Ok(Quoted {
+                    len: at,
+                    value,
+                    wide,
+                    stray,
+                    ending: Ending::Unknown,
+                });
             }
         }
     }

@@ -10,8 +10,8 @@ use crate::bytes::{byte_at, is_space, rest};
 use crate::comment::comment_len;
 use crate::integer::integer;
 use crate::plain::{Class, plain_at};
-use crate::reserved::Reserved;
 use crate::quoted::{Ending, Quoted, read_quoted};
+use crate::reserved::Reserved;
 use smlc_base::NoMemory;
 use std::alloc::Global;
 
@@ -54,39 +54,69 @@ pub enum Step {
 }
 
 /// The first fault of a constant that was read behind an opening of so many bytes.
-fn fault_of(ending: Ending, is_char: bool, count: usize, wide: bool, stray: Option<usize>, opening: usize) -> Option<Spot>
+fn fault_of(
+    ending: Ending,
+    is_char: bool,
+    count: usize,
+    wide: bool,
+    stray: Option<usize>,
+    opening: usize,
+) -> Option<Spot>
     requires opening { opening ≤ 2 }
     requires stray { ForSome stray (λ at. at < 2 ^ 63) }
     ensures { result ≡ fault_of ending is_char count wide stray opening }
 {
     match ending {
-        Ending::Unknown => Some(Spot { back: 0, trouble: Trouble::BadToken }),
-        Ending::Open => Some(Spot { back: 0, trouble: Trouble::Unclosed }),
+        Ending::Unknown => Some(Spot {
+            back: 0,
+            trouble: Trouble::BadToken,
+        }),
+        Ending::Open => Some(Spot {
+            back: 0,
+            trouble: Trouble::Unclosed,
+        }),
         Ending::Closed => {
             if is_char && count != 1 {
-                return Some(Spot { back: 0, trouble: Trouble::BadToken });
+                return Some(Spot {
+                    back: 0,
+                    trouble: Trouble::BadToken,
+                });
             }
             if wide {
-                return Some(Spot { back: 0, trouble: Trouble::LiteralRange });
+                return Some(Spot {
+                    back: 0,
+                    trouble: Trouble::LiteralRange,
+                });
             }
             match stray {
-                Some(at) => Some(Spot { back: opening + at, trouble: Trouble::BadToken }),
+                Some(at) => Some(Spot {
+                    back: opening + at,
+                    trouble: Trouble::BadToken,
+                }),
                 None => None,
             }
         }
     }
 }
 
-
 /// At a quote.
 fn string_step(alloc: Global, bytes: &[u8]) -> Result<Step, NoMemory>
     requires { slice_index bytes.now 0 ≡ 34 }
     ensures { IfOk result (λ step. IsStep bytes.now step) }
 {
-    let Quoted { len, value, wide, stray, ending } = read_quoted(alloc, rest(bytes, 1))?;
+    let Quoted {
+        len,
+        value,
+        wide,
+        stray,
+        ending,
+    } = read_quoted(alloc, rest(bytes, 1))?;
     match fault_of(ending, false, value.len(), wide, stray, 1) {
         Some(spot) => Ok(Step::Fault(spot)),
-        None => Ok(Step::Token { len: len + 2, kind: Kind::Text(value) }),
+        None => Ok(Step::Token {
+            len: len + 2,
+            kind: Kind::Text(value),
+        }),
     }
 }
 
@@ -96,10 +126,19 @@ fn character_step(alloc: Global, bytes: &[u8]) -> Result<Step, NoMemory>
     requires second { slice_index bytes.now 1 ≡ 34 }
     ensures { IfOk result (λ step. IsStep bytes.now step) }
 {
-    let Quoted { len, value, wide, stray, ending } = read_quoted(alloc, rest(bytes, 2))?;
+    let Quoted {
+        len,
+        value,
+        wide,
+        stray,
+        ending,
+    } = read_quoted(alloc, rest(bytes, 2))?;
     match fault_of(ending, true, value.len(), wide, stray, 2) {
         Some(spot) => Ok(Step::Fault(spot)),
-        None => Ok(Step::Token { len: len + 3, kind: Kind::Char(value[0]) }),
+        None => Ok(Step::Token {
+            len: len + 3,
+            kind: Kind::Char(value[0]),
+        }),
     }
 }
 
@@ -111,7 +150,10 @@ fn comment_step(bytes: &[u8]) -> Step
 {
     match comment_len(rest(bytes, 2)) {
         Some(len) => Step::Gap { len: len + 2 },
-        None => Step::Fault(Spot { back: 0, trouble: Trouble::Unclosed }),
+        None => Step::Fault(Spot {
+            back: 0,
+            trouble: Trouble::Unclosed,
+        }),
     }
 }
 
@@ -124,19 +166,49 @@ fn plain_step(bytes: &[u8]) -> Step
     ensures { IsStep bytes.now result }
 {
     match plain_at(bytes) {
-        None => Step::Fault(Spot { back: 0, trouble: Trouble::BadToken }),
+        None => Step::Fault(Spot {
+            back: 0,
+            trouble: Trouble::BadToken,
+        }),
         Some(found) => match found.class {
             Class::Int => match integer(&bytes[..found.len]) {
-                Some(value) => Step::Token { len: found.len, kind: Kind::Int(value) },
-                None => Step::Fault(Spot { back: 0, trouble: Trouble::LiteralRange }),
+                Some(value) => Step::Token {
+                    len: found.len,
+                    kind: Kind::Int(value),
+                },
+                None => Step::Fault(Spot {
+                    back: 0,
+                    trouble: Trouble::LiteralRange,
+                }),
             },
-            Class::Word(word) => Step::Token { len: found.len, kind: Kind::Word(word) },
-            Class::Id => Step::Token { len: found.len, kind: Kind::Id },
-            Class::Symbol => Step::Token { len: found.len, kind: Kind::Symbol },
-            Class::Long => Step::Token { len: found.len, kind: Kind::Long },
-            Class::TyVar => Step::Token { len: found.len, kind: Kind::TyVar },
-            Class::WordLit => Step::Token { len: found.len, kind: Kind::WordLit },
-            Class::Real => Step::Token { len: found.len, kind: Kind::Real },
+            Class::Word(word) => Step::Token {
+                len: found.len,
+                kind: Kind::Word(word),
+            },
+            Class::Id => Step::Token {
+                len: found.len,
+                kind: Kind::Id,
+            },
+            Class::Symbol => Step::Token {
+                len: found.len,
+                kind: Kind::Symbol,
+            },
+            Class::Long => Step::Token {
+                len: found.len,
+                kind: Kind::Long,
+            },
+            Class::TyVar => Step::Token {
+                len: found.len,
+                kind: Kind::TyVar,
+            },
+            Class::WordLit => Step::Token {
+                len: found.len,
+                kind: Kind::WordLit,
+            },
+            Class::Real => Step::Token {
+                len: found.len,
+                kind: Kind::Real,
+            },
         },
     }
 }

@@ -9,7 +9,12 @@ use crate::token::TokenKind;
 use smlc_base::{Bytes, Names, NoMemory, Row};
 
 /// The kind of a token with this spelling; its name or text is put away.
-pub fn stored(kind: Kind, text: &[u8], names: &mut Names, texts: &mut Vec<Bytes>) -> Result<TokenKind, NoMemory>
+pub fn stored(
+    kind: Kind,
+    text: &[u8],
+    names: &mut Names,
+    texts: &mut Vec<Bytes>,
+) -> Result<TokenKind, NoMemory>
     requires names { length names.old < 2 ^ 32 }
     requires texts { vec_len texts.old < 2 ^ 32 }
     ensures means { IfOk result (λ k. meaning_in names.new texts.new.items k ≡ Some (kind_meaning kind text.now)) }

@@ -1,13 +1,11 @@
-use Rattle.std.proofs.Common.{◌≡◌, ℕ, ◌+◌, ◌<◌, ◌≤◌, List, length, take, drop, refl, sym, ap, ◌∙◌, subst, arith, rules, vec_len}
+use Rattle.std.proofs.Common.{◌≡◌, ℕ, List, length, take, drop, ap, ◌∙◌, subst, arith}
 use Rattle.std.specs.List.{fold}
 use Rattle.std.proofs.lemmas.List.{length-take-le, length-drop}
 use Rattle.smlc_base.specs.declared.place.Place.{Place}
-use Rattle.sml_lexer.specs.declared.step.Kind.{Kind}
-use Rattle.sml_lexer.specs.declared.step.Spot.{Spot}
 use Rattle.sml_lexer.specs.declared.step.Step.{Step}
 use Rattle.sml_lexer.specs.declared.step.Step.TheVariants as step
 use Rattle.sml_lexer.specs.PlaceScan.{next_place}
-use Rattle.sml_lexer.specs.Steps.{IsStep, IsGapAt, IsTokenAt, IsFirstAt, kind_meaning}
+use Rattle.sml_lexer.specs.Steps.{IsStep, IsGapAt, IsTokenAt, IsFirstAt}
 use Rattle.sml_lexer.specs.Drafts.{AddsToken}
 use Rattle.sml_lexer.proofs.DraftLemmas.{drafted_nothing, drafted_gap, drafted_token, drafted_all, drafted_fault, place_small}
 use Rattle.sml_lexer.proofs.draft.file_tokens.Goals as goal
@@ -60,10 +58,10 @@ steps-preserved c =
     let text = c.front-text.ensures ∙ ap (take c.in-Token.len) c.rest-left.ensures in
     let e = c.in_ok-push_token-in-Token.ensures in
     drafted_token _ _ _ _ _ _ c.steps.invariant c.in-Token.len _ c.push_token.new.draft c.in-Token.kind
-      (step_along _ _ _ (step.Token c.in-Token.len c.in-Token.kind) c.in_ok-len.ensures c.rest-left.ensures c.in-Token.is)
-      (moved _ _ _ _ _ _ c.advance-place-in-Token.ensures c.front-text.ensures c.rest-left.ensures)
-      (subst (λ x. AddsToken c.steps.draft c.push_token.new.draft c.in-Token.kind c.steps.place c.steps.at x) text e.ok)
-      e.names e.texts e.token_count e.name_count e.text_count
+    (step_along _ _ _ (step.Token c.in-Token.len c.in-Token.kind) c.in_ok-len.ensures c.rest-left.ensures c.in-Token.is)
+    (moved _ _ _ _ _ _ c.advance-place-in-Token.ensures c.front-text.ensures c.rest-left.ensures)
+    (subst (λ x. AddsToken c.steps.draft c.push_token.new.draft c.in-Token.kind c.steps.place c.steps.at x) text e.ok)
+    e.names e.texts e.token_count e.name_count e.text_count
 
 pub advance-place-requires-in-Fault-clause-col : goal.advance-place-requires-in-Fault-clause-col
 advance-place-requires-in-Fault-clause-col c =

@@ -1,11 +1,11 @@
-use Rattle.std.proofs.Common.{◌≡◌, ℕ, ◌+◌, ◌<◌, ◌≤◌, true, List, length, map, take, refl, sym, ap, ◌∙◌, subst, arith, rules, vec_len, get_or}
+use Rattle.std.proofs.Common.{◌≡◌, ℕ, ◌+◌, ◌<◌, ◌≤◌, true, List, length, map, take, sym, ap, ◌∙◌, subst, arith, rules, vec_len, get_or}
 use Rattle.std.proofs.lemmas.List.{take_all}
 use Rattle.smlc_base.specs.declared.refusal.CompileError.{CompileError}
 use Rattle.smlc_base.specs.declared.refusal.CompileError.TheVariants as error
 use Rattle.sml_lexer.specs.Drafts.{IsFileErr, IsFileOk}
 use Rattle.sml_lexer.specs.Cited.{all_cited}
 use Rattle.sml_lexer.specs.Files.{total, limit, HasTokens, AreFiles, end_of}
-use Rattle.sml_lexer.specs.Programs.{IsRefused, IsLexed}
+use Rattle.sml_lexer.specs.Programs.{IsRefused}
 use Rattle.std.specs.List.{AllByRecursion}
 use Rattle.sml_lexer.proofs.FilesLemmas.{IsProgress, taken, total_more, total_part, have_tokens, no_progress, more_progress, accepted, files_cited, too_long_there, fault_there, count_there}
 use Rattle.sml_lexer.proofs.files.tokens.Goals as goal
@@ -52,8 +52,8 @@ refused f xs i x h k small all (error.Refused r) g = subst (λ r. IsRefused (map
 pub returns-in-Err-clause-err : goal.returns-in-Err-clause-err
 returns-in-Err-clause-err c =
     refused (λ f. f.items) c.args.files.now c.loop-i.i c.index-files-i.result c.loop-i-test.true c.index-files-i.is c.in-None.ensures
-      (have_tokens _ _ 1 _ _ c.loop-i.invariant.progress.are) c.in-Err.e
-      (subst (λ b. IsFileErr (c.loop-i.i + 1) b c.in-Err.e) c.as_slice.ensures.value c.in-Err.ensures.err)
+    (have_tokens _ _ 1 _ _ c.loop-i.invariant.progress.are) c.in-Err.e
+    (subst (λ b. IsFileErr (c.loop-i.i + 1) b c.in-Err.e) c.as_slice.ensures.value c.in-Err.ensures.err)
 
 pub loop-i-preserved : goal.loop-i-preserved
 loop-i-preserved c =
@@ -65,8 +65,8 @@ loop-i-preserved c =
     let ok = subst (λ b. IsFileOk (c.loop-i.i + 1) b c.loop-i.draft c.file_tokens.new.draft c.in-Ok.place) c.as_slice.ensures.value e.ok in
     record {
       progress = subst (λ fs. IsProgress fs c.file_tokens.new.draft.names c.file_tokens.new.draft.texts.items c.file_tokens.new.draft.tokens.items c.in-Ok.place)
-        (sym (taken (λ f. f.items) c.args.files.now c.loop-i.i x c.loop-i-test.true c.index-files-i.is))
-        (more_progress _ _ _ _ _ _ ok.tokens _ _ i.progress e.names e.texts x.items (c.loop-i.i + 1) (count_there (λ f. f.items) c.args.files.now c.loop-i.i c.loop-i-test.true)
+          (sym (taken (λ f. f.items) c.args.files.now c.loop-i.i x c.loop-i-test.true c.index-files-i.is))
+          (more_progress _ _ _ _ _ _ ok.tokens _ _ i.progress e.names e.texts x.items (c.loop-i.i + 1) (count_there (λ f. f.items) c.args.files.now c.loop-i.i c.loop-i-test.true)
           ok.lexemes ok.are ok.shown ok.items _ ok.end_is);
       token_count = let a = i.token_count in let b = e.token_count in omega (arith, t, n, a, b);
       name_count = let a = i.name_count in let b = e.name_count in omega (arith, t, n, a, b);
@@ -85,8 +85,8 @@ invariant_of-result-clause-few c =
 pub invariant_of-result-clause-cited : goal.invariant_of-result-clause-cited
 invariant_of-result-clause-cited c =
     subst (λ ts. all_cited (length c.loop-i.draft.names) (length c.from_vec-2.result) ts ≡ true) (sym c.from_vec.ensures)
-      (subst (λ xs. all_cited (length c.loop-i.draft.names) (length xs) c.loop-i.draft.tokens.items ≡ true) (sym c.from_vec-2.ensures)
-        (files_cited _ _ 1 _ _ c.loop-i.invariant.progress.are))
+    (subst (λ xs. all_cited (length c.loop-i.draft.names) (length xs) c.loop-i.draft.tokens.items ≡ true) (sym c.from_vec-2.ensures)
+    (files_cited _ _ 1 _ _ c.loop-i.invariant.progress.are))
 
 pub returns-clause-ok : goal.returns-clause-ok
 returns-clause-ok c =
@@ -94,7 +94,7 @@ returns-clause-ok c =
     let all = ap (map (λ f. f.items)) (take_all c.loop-i.i c.args.files.now c.loop-i-test.false) in
     record {
       tokens = subst (λ fs. AreFiles c.loop-i.draft.names c.from_vec-2.result 1 fs c.from_vec.result) all
-        (subst (λ ts. AreFiles c.loop-i.draft.names c.from_vec-2.result 1 (map (λ f. f.items) (take c.loop-i.i c.args.files.now)) ts) (sym c.from_vec.ensures)
+          (subst (λ ts. AreFiles c.loop-i.draft.names c.from_vec-2.result 1 (map (λ f. f.items) (take c.loop-i.i c.args.files.now)) ts) (sym c.from_vec.ensures)
           (subst (λ xs. AreFiles c.loop-i.draft.names xs 1 (map (λ f. f.items) (take c.loop-i.i c.args.files.now)) c.loop-i.draft.tokens.items) (sym c.from_vec-2.ensures) p.are));
       end = p.end_is ∙ ap (end_of (record { file = 0; line = 1; col = 1 }) 1) all;
       accepted = accepted _ c.in-None.ensures (subst (AllByRecursion HasTokens) all (have_tokens _ _ 1 _ _ p.are));

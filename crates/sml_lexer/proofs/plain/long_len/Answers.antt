@@ -1,4 +1,4 @@
-use Rattle.std.proofs.Common.{◌≡◌, length, ◌+◌, refl, ap, ◌∙◌, arith, rules}
+use Rattle.std.proofs.Common.{length, ◌+◌, refl, ap, ◌∙◌, arith, rules}
 use Rattle.std.proofs.lemmas.List.{take_rest}
 use Rattle.sml_lexer.specs.PlainScan.{part_at}
 use Rattle.sml_lexer.proofs.PlainScanLemmas.{left_stop, left_nothing, left_last, left_more}

@@ -1,4 +1,4 @@
-use Rattle.std.proofs.Common.{◌≡◌, ◌≤◌, ◌-◌, ℕ, length}
+use Rattle.std.proofs.Common.{◌≤◌, ◌-◌, ℕ, length}
 use Rattle.sml_lexer.specs.PlainScan.{long_len}
 use Rattle.sml_lexer.proofs.PlainScanLemmas.{Left}
 use Rattle.sml_lexer.proofs.plain.long_len.Given as goal

@@ -1,8 +1,8 @@
-use Rattle.std.proofs.Common.{◌≡◌, ◌||◌, ◌++◌, ◌∷◌, [], refl, sym, ap, ◌∙◌, subst, arith, rules, List, ℕ, ◌+◌, Bool, true, false, drop, ltb}
+use Rattle.std.proofs.Common.{◌≡◌, ◌||◌, ◌++◌, ◌∷◌, [], refl, sym, ap, ◌∙◌, subst, arith, List, ℕ, ◌+◌, false, drop, ltb}
 use Rattle.sml_lexer.specs.declared.quoted.Item.{Item}
-use Rattle.sml_lexer.specs.declared.quoted.Item.TheVariants.{Char, Gap, Control, Close, Open, Unknown}
+use Rattle.sml_lexer.specs.declared.quoted.Item.TheVariants.{Char, Gap, Control}
 use Rattle.sml_lexer.specs.QuotedScan.{item_at}
-use Rattle.sml_lexer.specs.QuotedRead.{IsRead, low_byte}
+use Rattle.sml_lexer.specs.QuotedRead.{IsRead}
 use Rattle.sml_lexer.proofs.QuotedReadLemmas.{read_nothing, read_char, read_gap, read_control, part_room, closes_at, opens_at, unknown_at}
 use Rattle.sml_lexer.proofs.quoted.read_quoted.Goals as goal
 
@@ -27,8 +27,8 @@ pub parts-preserved-in-Char : goal.parts-preserved-in-Char
 parts-preserved-in-Char c =
     let r = read_char c.args.bytes.now c.parts.value.items c.parts.at c.parts.wide c.parts.stray c.parts.invariant c.in-Char.code c.in-Char.len (item c.args.bytes.now c.rest.result.now c.parts.at _ c.rest.ensures c.in-Char.ensures) in
     subst (λ w. IsRead c.args.bytes.now (c.parts.at + c.in-Char.len) c.push.new.self.items w c.parts.stray) (sym c.either-wide.ensures)
-      (subst (λ v. IsRead c.args.bytes.now (c.parts.at + c.in-Char.len) v (c.parts.wide || ltb 255 c.in-Char.code) c.parts.stray)
-        (sym (c.in_ok-push-in-Char.ensures.items ∙ ap (λ x. c.parts.value.items ++ x ∷ []) c.low_byte.ensures)) r)
+    (subst (λ v. IsRead c.args.bytes.now (c.parts.at + c.in-Char.len) v (c.parts.wide || ltb 255 c.in-Char.code) c.parts.stray)
+    (sym (c.in_ok-push-in-Char.ensures.items ∙ ap (λ x. c.parts.value.items ++ x ∷ []) c.low_byte.ensures)) r)
 
 pub overflow_add-at-in-Gap : goal.overflow_add-at-in-Gap
 overflow_add-at-in-Gap c =

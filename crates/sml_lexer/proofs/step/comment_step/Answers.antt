@@ -1,4 +1,4 @@
-use Rattle.std.proofs.Common.{◌≡◌, ◌+◌, None, sym, ap, ◌∙◌, subst, length, arith}
+use Rattle.std.proofs.Common.{◌+◌, sym, ap, ◌∙◌, subst, length, arith}
 use Rattle.sml_lexer.specs.CommentScan.{close_at}
 use Rattle.sml_lexer.specs.declared.step.Trouble.TheVariants.{Unclosed}
 use Rattle.sml_lexer.specs.Steps.{IsGapAt, IsFirstAt}
@@ -11,9 +11,9 @@ returns-in-Some c =
     let e = sym (c.in-Some.ensures.value ∙ ap (close_at 0) c.rest.ensures) in
     let l = ap length c.rest.ensures in
     subst (λ x. IsGapAt x (c.in-Some.len + 2)) (two_is 40 42 c.args.bytes.now (omega arith) (omega arith) c.requires.first c.requires.second)
-      (comment_step _ c.in-Some.len e (let b = c.in-Some.ensures.bound in omega (arith, b, l)))
+    (comment_step _ c.in-Some.len e (let b = c.in-Some.ensures.bound in omega (arith, b, l)))
 
 pub returns-in-None : goal.returns-in-None
 returns-in-None c =
     subst (λ x. IsFirstAt x (record { back = 0; trouble = Unclosed })) (two_is 40 42 c.args.bytes.now (omega arith) (omega arith) c.requires.first c.requires.second)
-      (open_comment_step _ (sym (c.in-None.ensures.value ∙ ap (close_at 0) c.rest.ensures)))
+    (open_comment_step _ (sym (c.in-None.ensures.value ∙ ap (close_at 0) c.rest.ensures)))

@@ -1,10 +1,7 @@
-use Rattle.std.proofs.Common.{◌≡◌, ◌≢◌, ℕ, ◌<◌, List, [], ◌∷◌, length, take, Some, None, Bool, false, refl, sym, ap, ◌∙◌, subst, arith, rules, get_or}
+use Rattle.std.proofs.Common.{◌≡◌, ℕ, ◌<◌, List, [], ◌∷◌, length, take, None, false, sym, ap, ◌∙◌, subst, arith, rules, get_or}
 use mir.Syntax.{w64}
 use mir.Val.{SFits}
 use Rattle.std.proofs.lemmas.Int.{to_z-of_z}
-use Rattle.sml_lexer.specs.declared.plain.Found.{Found}
-use Rattle.sml_lexer.specs.declared.plain.Class.{Class}
-use Rattle.sml_lexer.specs.declared.plain.Class.TheVariants as class
 use Rattle.sml_lexer.specs.declared.step.Trouble.TheVariants.{BadToken}
 use Rattle.sml_lexer.specs.Bytes.{is_space}
 use Rattle.sml_lexer.specs.Classified.{meaning_of}
@@ -13,7 +10,6 @@ use Rattle.sml_lexer.specs.Meanings.{IsInRange}
 use Rattle.sml_lexer.specs.Meanings as meaning
 use Rattle.sml_lexer.specs.PlainScan.{plain_at}
 use Rattle.sml_lexer.specs.Steps.{IsTokenAt, IsFirstAt, NoComment, OpensNone}
-use Rattle.sml_lexer.specs.Tokens.{IsAllowed}
 use Rattle.sml_lexer.proofs.PlaceSteps.{stranger_step, plain_token, range_step}
 use Rattle.sml_lexer.proofs.step.plain_step.Goals as goal
 
@@ -59,11 +55,11 @@ returns-in-Some-integer c =
     let value = c.in-Some-integer.value in
     let fits : SFits w64 value = search rules in
     subst (λ z. IsTokenAt c.args.bytes.now c.in-Some.found.len (meaning.integer z)) (sym (to_z-of_z w64 value fits))
-      (plain_token c.args.bytes.now c.requires.some c.requires.no_comment c.requires.no_constant c.in-Some.found (sym c.in-Some.ensures.value) _
-        (ap (λ k. meaning_of k text) c.in-Int.is ∙ ap (λ z. meaning.integer z) (sym ens.1)) (subst IsInRange (sym ens.1) ens.0))
+    (plain_token c.args.bytes.now c.requires.some c.requires.no_comment c.requires.no_constant c.in-Some.found (sym c.in-Some.ensures.value) _
+    (ap (λ k. meaning_of k text) c.in-Int.is ∙ ap (λ z. meaning.integer z) (sym ens.1)) (subst IsInRange (sym ens.1) ens.0))
 
 pub returns-in-None-integer : goal.returns-in-None-integer
 returns-in-None-integer c =
     let text = take c.in-Some.found.len c.args.bytes.now in
     range_step c.args.bytes.now c.requires.some c.requires.no_comment c.requires.no_constant c.in-Some.found (sym c.in-Some.ensures.value) (integer_of text)
-      (ap (λ k. meaning_of k text) c.in-Int.is) c.in-None-integer.ensures
+    (ap (λ k. meaning_of k text) c.in-Int.is) c.in-None-integer.ensures

@@ -1,4 +1,4 @@
-use Rattle.std.proofs.Common.{◌≡◌, List, ℕ, Bool, Option, drop, length, false, Some, None, sym, ap, ◌∙◌, subst, rules}
+use Rattle.std.proofs.Common.{◌≡◌, List, ℕ, Bool, Option, drop, length, false, sym, ap, ◌∙◌, subst, rules}
 use Rattle.sml_lexer.specs.declared.quoted.Ending.{Ending}
 use Rattle.sml_lexer.specs.QuotedRead.{IsRead, Ends}
 use Rattle.sml_lexer.specs.Steps.{fault_of}
@@ -16,11 +16,11 @@ returns-in-Some c =
     let q = c.in_ok-len.field-0 in
     let count : length q.value.items ≡ c.len.result = search rules in
     string_fault c.args.bytes.now c.requires _ _ _ _ (read _ c.args.bytes.now c.rest.ensures _ _ _ _ c.in_ok-len.ensures.read) _ (ends _ c.args.bytes.now c.rest.ensures _ _ c.in_ok-len.ensures.ends) _
-      (ap (λ n. fault_of q.ending false n q.wide q.stray 1) count ∙ sym c.in-Some.ensures)
+    (ap (λ n. fault_of q.ending false n q.wide q.stray 1) count ∙ sym c.in-Some.ensures)
 
 pub returns-in-None : goal.returns-in-None
 returns-in-None c =
     let q = c.in_ok-len.field-0 in
     let count : length q.value.items ≡ c.len.result = search rules in
     string_good c.args.bytes.now c.requires _ _ _ _ (read _ c.args.bytes.now c.rest.ensures _ _ _ _ c.in_ok-len.ensures.read) _ (ends _ c.args.bytes.now c.rest.ensures _ _ c.in_ok-len.ensures.ends)
-      (ap (λ n. fault_of q.ending false n q.wide q.stray 1) count ∙ sym c.in-None.ensures)
+    (ap (λ n. fault_of q.ending false n q.wide q.stray 1) count ∙ sym c.in-None.ensures)
