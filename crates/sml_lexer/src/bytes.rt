@@ -19,61 +19,67 @@ pub enum ByteClass {
 pub fn is_letter(c: u8) -> bool
     ensures { result ≡ is_letter c }
 {
-    (65 <= c && c <= 90) || (97 <= c && c <= 122)
+    (b'A' <= c && c <= b'Z') || (b'a' <= c && c <= b'z')
 }
 
 #[tactic(auto, unfolding(crate::specs::Bytes::is_digit))]
 pub fn is_digit(c: u8) -> bool
     ensures { result ≡ is_digit c }
 {
-    48 <= c && c <= 57
+    b'0' <= c && c <= b'9'
 }
 
 #[tactic(auto, unfolding(crate::specs::Bytes::is_hexadecimal))]
 fn is_hexadecimal(c: u8) -> bool
     ensures { result ≡ is_hexadecimal c }
 {
-    (48 <= c && c <= 57) || (65 <= c && c <= 70) || (97 <= c && c <= 102)
+    (b'0' <= c && c <= b'9') || (b'A' <= c && c <= b'F') || (b'a' <= c && c <= b'f')
 }
 
 #[tactic(auto, unfolding(crate::specs::Bytes::is_alphanumeric))]
 fn is_alphanumeric(c: u8) -> bool
     ensures { result ≡ is_alphanumeric c }
 {
-    (65 <= c && c <= 90) || (97 <= c && c <= 122) || (48 <= c && c <= 57) || c == 39 || c == 95
+    (b'A' <= c && c <= b'Z')
+        || (b'a' <= c && c <= b'z')
+        || (b'0' <= c && c <= b'9')
+        || c == b'\''
+        || c == b'_'
 }
 
 #[tactic(auto, unfolding(crate::specs::Bytes::is_sign))]
 pub fn is_sign(c: u8) -> bool
     ensures { result ≡ is_sign c }
 {
-    c == 33
-        || c == 37
-        || c == 38
-        || c == 36
-        || c == 35
-        || c == 43
-        || c == 45
-        || c == 47
-        || c == 58
-        || c == 60
-        || c == 61
-        || c == 62
-        || c == 63
-        || c == 64
-        || c == 92
-        || c == 126
-        || c == 96
-        || c == 94
-        || c == 124
-        || c == 42
+    matches!(
+        c,
+        b'!' | b'%'
+            | b'&'
+            | b'$'
+            | b'#'
+            | b'+'
+            | b'-'
+            | b'/'
+            | b':'
+            | b'<'
+            | b'='
+            | b'>'
+            | b'?'
+            | b'@'
+            | b'\\'
+            | b'~'
+            | b'`'
+            | b'^'
+            | b'|'
+            | b'*'
+    )
 }
 
 #[tactic(auto, unfolding(crate::specs::Bytes::is_space))]
 pub fn is_space(c: u8) -> bool
     ensures { result ≡ is_space c }
 {
-    c == 32 || c == 9 || c == 10 || c == 12 || c == 13
+    c == b' ' || c == b'\t' || c == b'\n' || c == 12 || c == b'\r'
 }
 
 #[tactic(auto, unfolding(crate::specs::Bytes::is_control))]

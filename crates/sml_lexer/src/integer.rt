@@ -15,9 +15,9 @@ fn digit_value(c: u8) -> u64
     ensures value { result ≡ digit_value c }
     ensures bound { result ≤ 255 }
 {
-    if c <= 57 {
-        u64::from(c.saturating_sub(48))
-    } else if c <= 70 {
+    if c <= b'9' {
+        u64::from(c.saturating_sub(b'0'))
+    } else if c <= b'F' {
         u64::from(c - 55)
     } else {
         u64::from(c.saturating_sub(87))
