@@ -1,0 +1,8 @@
+use Rattle.sml_lexer.proofs.FileLemmas.{tokens_unique, tokens_or_faults}
+use Rattle.sml_lexer.proofs.laws.one_reading.Goals as goal
+
+pub returns-clause-tokens : goal.returns-clause-tokens
+returns-clause-tokens c = tokens_unique
+
+pub returns-clause-faults : goal.returns-clause-faults
+returns-clause-faults c = tokens_or_faults
