@@ -1,0 +1,18 @@
+//! Unification of types with equality marks.
+//!
+//! It stands on `sml_types`, `smlc_base` and `indexmap`. Its main contract: after Ok the substitution of `unify` is a most general one that extends the old and makes both types equal, and after any error but want of memory there is none.
+#![tactic(auto)]
+
+mod bind;
+pub mod error;
+mod head;
+mod mark;
+mod occurs;
+pub mod pair;
+mod parts;
+mod simplify;
+mod solve;
+pub mod subst;
+
+pub use error::UnifyError;
+pub use subst::{Subst, unify};
