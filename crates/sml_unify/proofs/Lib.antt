@@ -10,7 +10,8 @@ pub mod Bindings
 pub mod Known
 pub mod MarksKept
 pub mod MarkFails
-pub mod Marks
+pub mod MarkWalk
+pub mod OccursWalk
 pub mod Extends
 pub mod Logs
 pub mod PairSteps

@@ -1,5 +1,5 @@
 -- A walk that comes to each form once: what is seen is settled by what is seen and what waits.
-use Rattle.std.proofs.Common.{◌≡◌, ℕ, zero, suc, ◌+◌, ◌<◌, ◌≤◌, Bool, true, false, List, [], ◌∷◌, ◌++◌, length, Option, Some, refl, sym, ap, ◌∙◌, subst, arith, append_assoc}
+use Rattle.std.proofs.Common.{◌≡◌, ℕ, zero, suc, ◌+◌, ◌<◌, ◌≤◌, Bool, true, false, List, [], ◌∷◌, ◌++◌, length, Option, Some, refl, sym, ap, ◌∙◌, subst, arith, append_assoc, length-append, not, if◌then◌else◌}
 use Rattle.std.specs.Prelude.{slice_get, nat_eq, ◌||◌}
 use Rattle.std.specs.List.{AllByRecursion}
 use Rattle.std.proofs.lemmas.Bool.{eqb-true, eq-eqb}
@@ -11,7 +11,10 @@ use Rattle.sml_types.specs.Tree.{Tree, inst, size}
 use Rattle.sml_types.specs.Forms.{tree, listed, parts_of}
 use Rattle.sml_types.proofs.TreeFacts.{either, or_left, or_right}
 use Rattle.sml_unify.specs.Solved.{IsSolved, under, meant}
+use Rattle.indexmap.specs.IndexSet.{insert_key}
 use Rattle.sml_unify.specs.Steps.{logged}
+use Rattle.sml_unify.specs.Visit.{IsVisit}
+use Rattle.sml_unify.proofs.Unvisited.{unvisited, unvisited_falls}
 use Rattle.sml_unify.proofs.Walks.{all_append, at_app}
 
 pub logged_left : (xs ys : List ℕ) (c : ℕ) → logged xs c ≡ true → logged (xs ++ ys) c ≡ true
@@ -158,3 +161,50 @@ module _ (forms : List TyForm) (bound : List (Option Ty)) (good : Tree → Type 
         go (waits w) = cc
         go (fine g) = g
         go (met j o e) = subst good (sym e) (seen_good (size (meaning j)) j o (omega arith))
+
+-- a set's answer at an insertion
+pub visited : (seen : List ℕ) (n : ℕ) (first : Bool) (after : List ℕ) → first ≡ not (logged seen n) → after ≡ insert_key nat_eq seen n → IsVisit seen n first after
+visited seen n first after b k = go (logged seen n) refl first b
+  where
+    go : (w : Bool) → logged seen n ≡ w → (first : Bool) → first ≡ not (logged seen n) → IsVisit seen n first after
+    go true e true q = let x : true ≡ false = q ∙ ap not e in cc
+    go true e false q = (e, k ∙ ap (λ c. if c then seen else seen ++ n ∷ []) e)
+    go false e true q = (e, k ∙ ap (λ c. if c then seen else seen ++ n ∷ []) e)
+    go false e false q = let x : false ≡ true = q ∙ ap not e in cc
+
+-- what is left to do: what is not seen, and what waits
+abbrev pub to_do : List TyForm → List ℕ → List ℕ → ℕ
+to_do forms seen work = unvisited (logged seen) forms + length work
+
+pub to_do_less : (forms : List TyForm) (seen rest : List ℕ) (next : ℕ) → to_do forms seen rest < to_do forms seen (rest ++ next ∷ [])
+to_do_less forms seen rest next = omega (arith, length-append rest (next ∷ []))
+
+pub to_do_visit : (forms : List TyForm) (seen rest : List ℕ) (next now : ℕ) (form : TyForm) → slice_get forms now ≡ Some form → logged seen now ≡ false → to_do forms (seen ++ now ∷ []) (rest ++ parts_of form) < to_do forms seen (rest ++ next ∷ [])
+to_do_visit forms seen rest next now form q n =
+    let w = unvisited_falls (logged seen) (logged (seen ++ now ∷ [])) forms now form q n (logged_here seen now) (logged_left seen (now ∷ [])) in
+    omega (arith, length-append rest (next ∷ []), length-append rest (parts_of form))
+
+pub visit_first : (seen : List ℕ) (n : ℕ) (first : Bool) (after : List ℕ) → IsVisit seen n first after → first ≡ true → (logged seen n ≡ false) × (after ≡ seen ++ n ∷ [])
+visit_first seen n true after v e = v
+visit_first seen n false after v e = cc
+
+pub visit_again : (seen : List ℕ) (n : ℕ) (first : Bool) (after : List ℕ) → IsVisit seen n first after → first ≡ false → (logged seen n ≡ true) × (after ≡ seen)
+visit_again seen n true after v e = cc
+visit_again seen n false after v e = v
+
+-- what holds of the lists after a visit
+module _ (P : List ℕ → List ℕ → Type 0) (seen after work2 rest : List ℕ) (now : ℕ) (first : Bool) (v : IsVisit seen now first after) where
+  pub after_first : (parts : List ℕ) → first ≡ true → work2 ≡ rest ++ parts → P (rest ++ parts) (seen ++ now ∷ []) → P work2 after
+  after_first parts e q h =
+      subst (λ (is : List ℕ). P is after) (sym q) (subst (λ (is : List ℕ). P (rest ++ parts) is) (sym (visit_first seen now first after v e).1) h)
+
+  pub after_again : first ≡ false → (logged seen now ≡ true → P rest seen) → P rest after
+  after_again e h =
+      let w = visit_again seen now first after v e in subst (λ (is : List ℕ). P rest is) (sym w.1) (h w.0)
+
+pub to_do_first : (forms : List TyForm) (seen after work work2 rest : List ℕ) (next now : ℕ) (form : TyForm) (first : Bool) → slice_get forms now ≡ Some form → IsVisit seen now first after → first ≡ true → work ≡ rest ++ next ∷ [] → work2 ≡ rest ++ parts_of form → to_do forms after work2 < to_do forms seen work
+to_do_first forms seen after work work2 rest next now form first q v e w x =
+    subst
+    (λ (is : List ℕ). to_do forms after work2 < to_do forms seen is)
+    (sym w)
+    (after_first (λ is os. to_do forms os is < to_do forms seen (rest ++ next ∷ [])) seen after work2 rest now first v (parts_of form) e x (to_do_visit forms seen rest next now form q (visit_first seen now first after v e).0))

@@ -13,6 +13,7 @@ mod parts;
 mod simplify;
 mod solve;
 pub mod subst;
+mod visit;
 
 pub use error::UnifyError;
 pub use subst::{Subst, unify};

@@ -9,6 +9,8 @@ ghost use Rattle.sml_unify.specs.Simplified.{IsMarking};
 use crate::error::UnifyError;
 use crate::head::head;
 use crate::parts::parts;
+use crate::visit::visit;
+use indexmap::IndexSet;
 use sml_types::{Equality, Ty, TyForm, TyVar, TypeName};
 use std::alloc::Global;
 
@@ -39,6 +41,7 @@ pub(crate) fn unmarked(
     requires here { ty.0 < length forms.now }
     ensures { IsMarking names.now forms.now bound.now ty.0 result }
 {
+    let mut seen = IndexSet::new(alloc);
     let mut work = Vec::new(alloc);
     work.push(ty.0)?;
     while let Some(next) = work.pop() {
@@ -54,8 +57,10 @@ pub(crate) fn unmarked(
                 Equality::Never => return Err(UnifyError::NoEquality),
                 Equality::Always => {}
                 Equality::Parts => {
-                    let mut found = parts(alloc, form)?;
-                    work.append(&mut found)?;
+                    if visit(&mut seen, now.0)? {
+                        let mut found = parts(alloc, form)?;
+                        work.append(&mut found)?;
+                    }
                 }
             },
         }

@@ -6,6 +6,8 @@ ghost use Rattle.sml_unify.specs.Solved.{bound_at, IsSolved, meant, under};
 
 use crate::head::head;
 use crate::parts::parts;
+use crate::visit::visit;
+use indexmap::IndexSet;
 use sml_types::{Ty, TyForm};
 use smlc_base::NoMemory;
 use std::alloc::Global;
@@ -23,6 +25,7 @@ pub(crate) fn stands_in(
     requires unbound { bound_at bound.now num ≡ None }
     ensures { IfOk result (λ b. b ≡ occurs num (under forms.now (meant forms.now bound.now) ty.0)) }
 {
+    let mut seen = IndexSet::new(alloc);
     let mut work = Vec::new(alloc);
     work.push(ty.0)?;
     while let Some(next) = work.pop() {
@@ -35,8 +38,10 @@ pub(crate) fn stands_in(
                 }
             }
             _ => {
-                let mut found = parts(alloc, form)?;
-                work.append(&mut found)?;
+                if visit(&mut seen, now.0)? {
+                    let mut found = parts(alloc, form)?;
+                    work.append(&mut found)?;
+                }
             }
         }
     }
