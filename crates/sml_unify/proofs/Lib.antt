@@ -18,3 +18,6 @@ pub mod PairSteps
 pub mod Chains
 pub mod Unvisited
 pub mod Visits
+pub mod LinkFacts
+pub mod Runs
+pub mod RunSteps

@@ -16,8 +16,9 @@ use Rattle.sml_unify.specs.declared.error.UnifyError.TheVariants as error
 use Rattle.sml_types.specs.declared.tables.TypeName.{TypeName}
 use Rattle.sml_unify.proofs.FailsFacts.{turned_last, turned_none, turned_pushed, replaced, swapped, stay}
 use Rattle.sml_unify.specs.Simplified.{IsBinding}
+use Rattle.sml_unify.specs.Tasks.{IsFacing, straight, across}
 use Rattle.sml_unify.proofs.Meant.{meant_solves}
-use Rattle.sml_unify.proofs.Heads.{tree_var}
+use Rattle.sml_unify.proofs.Heads.{tree_var, free_here}
 use Rattle.sml_unify.proofs.Walks.{all_append, all_left, all_right, at_app, at_var}
 use Rattle.sml_unify.proofs.Walks as walks
 use Rattle.sml_unify.proofs.Pairs.{left_size, left_size-append, left_size-parts, parts_forth, parts_back, parts_within, same_last, app_forth, app_back, apps_differ}
@@ -45,32 +46,21 @@ pub record IsHead (forms : List TyForm) (bound : List (Option Ty)) (a i : ℕ) :
   pub free : IsFree forms bound i
   pub same : IsSameType forms bound a i
 
-module _ (forms : List TyForm) (bound : List (Option Ty)) (s : IsSolved forms bound) (before work rest : List Pair) (p : Pair) (k : IsTaken forms bound before work rest p) (i j : Ty) (l : IsHead forms bound p.left.0 i.0) (r : IsHead forms bound p.right.0 j.0) where
-  abbrev straight : Pair
-  straight = record { left = i; right = j }
+module _ (forms : List TyForm) (bound : List (Option Ty)) (s : IsSolved forms bound) (before work rest : List Pair) (p : Pair) (k : IsTaken forms bound before work rest p) where
+  same_next : (q : Pair) → ((f : Substitution) → Solves forms bound f → IsEqualPair forms f p → IsEqualPair forms f q) → ((f : Substitution) → Solves forms bound f → IsEqualPair forms f q → IsEqualPair forms f p) → ((names : List TypeName) (e : UnifyError) → Fails names forms bound (q ∷ turned rest) e → Fails names forms bound (p ∷ turned rest) e) → IsSame forms bound before (rest ++ q ∷ [])
+  same_next q forth back fails =
+      same_last forms bound s before rest (q ∷ []) p k.same (λ f g e. (forth f g e, tt)) (λ f g e. back f g e.0) (λ names e w. fails names e (subst (λ (ps : List Pair). Fails names forms bound ps e) (turned_last rest q) w))
 
-  abbrev across : Pair
-  across = record { left = j; right = i }
+  -- another pair in its place, whose first type is a variable that is not bound
+  pub next_same : (q : Pair) → IsBinding forms bound q → IsFacing forms bound p q → IsSame forms bound before (rest ++ q ∷ [])
+  next_same q b (straight l r) =
+      same_next q (λ f g e. sym (l f g) ∙ e ∙ r f g) (λ f g e. l f g ∙ e ∙ sym (r f g)) (λ names e w. replaced names p s l r w)
+  next_same q b (across l r) =
+      same_next q (λ f g e. sym (l f g) ∙ sym e ∙ r f g) (λ f g e. r f g ∙ sym e ∙ sym (l f g)) (λ names e w. swapped names p s l r b.var (at_var forms bound s q.left.0 b.var b.here (free_here forms bound q.left.0 b.var b.here b.unbound)) w)
 
-  pub bind_left : (v : TyVar) → slice_get forms i.0 ≡ Some (Var v) → ((w : TyVar) → slice_get forms j.0 ≡ Some (Var w) → v.num ≡ w.num → ⊥) → IsBinding forms bound straight × ArePairs forms rest × IsSame forms bound before (rest ++ straight ∷ [])
-  bind_left v q o = (
-    record { var = v; here = q; unbound = l.free v q; other = o; free = r.free; within = (l.there, r.there) },
-    k.rest_within,
-    same_last forms bound s before rest (straight ∷ []) p k.same (λ f g e. (sym (l.same f g) ∙ e ∙ r.same f g, tt)) (λ f g e. l.same f g ∙ e.0 ∙ sym (r.same f g)) (λ names e w. replaced names p s l.same r.same (subst (λ (ps : List Pair). Fails names forms bound ps e) (turned_last rest straight) w)),
-  )
-
-  pub bind_right : (v : TyVar) → slice_get forms j.0 ≡ Some (Var v) → ((w : TyVar) → slice_get forms i.0 ≡ Some (Var w) → v.num ≡ w.num → ⊥) → IsBinding forms bound across × ArePairs forms rest × IsSame forms bound before (rest ++ across ∷ [])
-  bind_right v q o = (
-    record { var = v; here = q; unbound = r.free v q; other = o; free = l.free; within = (r.there, l.there) },
-    k.rest_within,
-    same_last forms bound s before rest (across ∷ []) p k.same (λ f g e. (sym (r.same f g) ∙ sym e ∙ l.same f g, tt)) (λ f g e. l.same f g ∙ sym e.0 ∙ sym (r.same f g)) (λ names e w. swapped names p s r.same l.same v (at_var forms bound s j.0 v q r.free) (subst (λ (ps : List Pair). Fails names forms bound ps e) (turned_last rest across) w)),
-  )
-
-  -- one variable on both sides
-  pub drop_same : (v w : TyVar) → slice_get forms i.0 ≡ Some (Var v) → slice_get forms j.0 ≡ Some (Var w) → v.num ≡ w.num → IsSame forms bound before rest
-  drop_same v w q u e =
-      let one : v ≡ w = s.named i.0 j.0 v w q u e in
-      let equal : (f : Substitution) → Solves forms bound f → IsEqualPair forms f p = λ f g. l.same f g ∙ ap (inst f) (tree_var forms bound i.0 v s q ∙ ap Variable one ∙ sym (tree_var forms bound j.0 w s u)) ∙ sym (r.same f g) in
+  -- it is equal already
+  pub drop_settled : ((f : Substitution) → Solves forms bound f → IsEqualPair forms f p) → IsSame forms bound before rest
+  drop_settled equal =
       let h : IsSame forms bound before (rest ++ []) = same_last forms bound s before rest [] p k.same (λ f g x. tt) (λ f g x. equal f g) (λ names d z. named.on (stay names forms bound (p ∷ []) s) equal (subst (λ (ps : List Pair). Fails names forms bound ps d) (turned_none rest) z)) in
       subst (λ (ps : List Pair). IsSame forms bound before ps) (append_none rest) h
     where
@@ -78,14 +68,7 @@ module _ (forms : List TyForm) (bound : List (Option Ty)) (s : IsSolved forms bo
       append_none [] = refl
       append_none (x ∷ xs) = ap (λ ys. x ∷ ys) (append_none xs)
 
-  pub drop_smaller : (v : TyVar) → slice_get forms i.0 ≡ Some (Var v) → left_size forms (meant forms bound) rest < left_size forms (meant forms bound) work
-  drop_smaller v q =
-      let a = left_size-append forms (meant forms bound) rest (p ∷ []) in
-      let b : size (under forms (meant forms bound) p.left.0) ≡ 1 = ap size (l.same (meant forms bound) (meant_solves forms bound s.acyclic) ∙ at_var forms bound s i.0 v q l.free) in
-      let c = ap (left_size forms (meant forms bound)) k.whole in
-      omega arith
-
-  module _ (a b : TyForm) (q : slice_get forms i.0 ≡ Some a) (u : slice_get forms j.0 ≡ Some b) (x : (v : TyVar) → a ≡ Var v → ⊥) (y : (v : TyVar) → b ≡ Var v → ⊥) where
+  module _ (i j : Ty) (l : IsHead forms bound p.left.0 i.0) (r : IsHead forms bound p.right.0 j.0) (a b : TyForm) (q : slice_get forms i.0 ≡ Some a) (u : slice_get forms j.0 ≡ Some b) (x : (v : TyVar) → a ≡ Var v → ⊥) (y : (v : TyVar) → b ≡ Var v → ⊥) where
     left_app : IsApp forms bound p.left.0 a
     left_app = record { at = i.0; same = l.same; here = q; head = x }
 
@@ -117,12 +100,3 @@ module _ (forms : List TyForm) (bound : List (Option Ty)) (s : IsSolved forms bo
     pub parts_there : ArePairs forms (rest ++ last_first (parts_of a) (parts_of b))
     parts_there =
         all_append (IsPair forms) rest (last_first (parts_of a) (parts_of b)) k.rest_within (parts_within forms (parts_of a) (parts_of b) (walks.parts_within forms bound s i.0 a l.there q) (walks.parts_within forms bound s j.0 b r.there u))
-
-    pub parts_smaller : (head_of a ≡ head_of b) × (length (parts_of a) ≡ length (parts_of b)) → left_size forms (meant forms bound) (rest ++ last_first (parts_of a) (parts_of b)) < left_size forms (meant forms bound) work
-    parts_smaller d =
-        let m = left_size-append forms (meant forms bound) rest (p ∷ []) in
-        let n = left_size-append forms (meant forms bound) rest (last_first (parts_of a) (parts_of b)) in
-        let o = left_size-parts forms (meant forms bound) (parts_of a) (parts_of b) d.1 in
-        let w : size (under forms (meant forms bound) p.left.0) ≡ 1 + size (inst (meant forms bound) (listed (tree forms) (parts_of a))) = ap size (l.same (meant forms bound) (meant_solves forms bound s.acyclic) ∙ at_app forms bound s (meant forms bound) i.0 a q x) in
-        let c = ap (left_size forms (meant forms bound)) k.whole in
-        omega arith

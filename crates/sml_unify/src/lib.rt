@@ -6,13 +6,15 @@
 mod bind;
 pub mod error;
 mod head;
+mod link;
 mod mark;
 mod occurs;
 pub mod pair;
 mod parts;
-mod simplify;
+pub mod simplify;
 mod solve;
 pub mod subst;
+mod task;
 mod visit;
 
 pub use error::UnifyError;
