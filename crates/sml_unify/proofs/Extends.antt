@@ -33,7 +33,7 @@ more_last : (xs : List TyForm) (y : TyForm) → slice_get (xs ++ y ∷ []) (leng
 more_last [] y = refl
 more_last (x ∷ xs) y = more_last xs y
 
-more_cases : (xs : List TyForm) (y : TyForm) (i : ℕ) (f : TyForm) (P : Type 0) → slice_get (xs ++ y ∷ []) i ≡ Some f → (slice_get xs i ≡ Some f → P) → (i ≡ length xs → y ≡ f → P) → P
+pub more_cases : (xs : List TyForm) (y : TyForm) (i : ℕ) (f : TyForm) (P : Type 0) → slice_get (xs ++ y ∷ []) i ≡ Some f → (slice_get xs i ≡ Some f → P) → (i ≡ length xs → y ≡ f → P) → P
 more_cases [] y zero f P q a b = b refl cc
 more_cases [] y (suc i) f P q a b = cc
 more_cases (x ∷ xs) y zero f P q a b = a q

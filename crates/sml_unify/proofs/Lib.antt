@@ -21,3 +21,4 @@ pub mod Visits
 pub mod LinkFacts
 pub mod Runs
 pub mod RunSteps
+pub mod Fresh

@@ -33,6 +33,11 @@ IsAcyclic forms bound = (rank : ℕ → ℕ) × ((x y : ℕ) (t : Ty) → bound_
 abbrev pub IsWithin : List TyForm → List (Option Ty) → Type 0
 IsWithin forms bound = (x : ℕ) (t : Ty) → bound_at bound x ≡ Some t → t.0 < length forms
 
+-- what holds of the bindings of a substitution
+pub record AreBindings (forms : List TyForm) (bound : List (Option Ty)) : Type 0 where
+  pub within : IsWithin forms bound
+  pub acyclic : IsAcyclic forms bound
+
 -- what always holds of types and bindings
 pub record IsSolved (forms : List TyForm) (bound : List (Option Ty)) : Type 0 where
   pub numbered : IsNumbered forms

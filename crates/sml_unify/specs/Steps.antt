@@ -3,6 +3,8 @@ use Rattle.std.specs.Prelude.{◌≡◌, ℕ, ◌<◌, ◌≤◌, Bool, true, fa
 use Rattle.std.specs.List.{list_any}
 use Rattle.sml_types.specs.declared.types.Ty.{Ty}
 use Rattle.sml_types.specs.declared.types.TyForm.{TyForm}
+use Rattle.sml_types.specs.declared.types.TyForm.TheVariants.{Var}
+use Rattle.sml_types.specs.declared.types.TyVar.{TyVar}
 use Rattle.sml_types.specs.declared.tables.TypeName.{TypeName}
 use Rattle.sml_types.specs.Forms.{tree}
 use Rattle.sml_unify.specs.declared.pair.Pair.{Pair}
@@ -15,6 +17,17 @@ pub record IsLonger (forms after : List TyForm) : Type 0 where
   pub count : length forms ≤ length after
   pub keeps : (i : ℕ) (f : TyForm) → slice_get forms i ≡ Some f → slice_get after i ≡ Some f
   pub trees : (i : ℕ) → i < length forms → tree after i ≡ tree forms i
+
+-- a new variable, with a mark and a number of its own
+pub record IsFresh (forms : List TyForm) (bound : List (Option Ty)) (f : TyForm) : Type 0 where
+  pub var : TyVar
+  pub is : f ≡ Var var
+  pub marked : var.eq ≡ true
+  pub beyond : next_number forms bound ≤ var.num
+
+-- all forms behind the old ones are new variables
+abbrev pub AreFresh : List TyForm → List (Option Ty) → List TyForm → Type 0
+AreFresh forms bound after = (i : ℕ) (f : TyForm) → length forms ≤ i → slice_get after i ≡ Some f → IsFresh forms bound f
 
 -- a solution that keeps the marks goes over into one of the later bindings, and each of those is one of the former
 pub record IsExtension (names : List TypeName) (forms : List TyForm) (bound : List (Option Ty)) (pairs : List Pair) (forms2 : List TyForm) (bound2 : List (Option Ty)) : Type 0 where

@@ -1,7 +1,7 @@
 //! One binding after another.
 
 ghost use Rattle.std.specs.Prelude.{◌≡◌, Some, slice_get, List, Option};
-ghost use Rattle.sml_unify.specs.Steps.{IsLogged, IsLonger};
+ghost use Rattle.sml_unify.specs.Steps.{IsLogged, IsLonger, AreFresh};
 ghost use Rattle.sml_unify.specs.Outcomes.{IsStep, IsUnified};
 ghost use Rattle.sml_types.specs.declared.types.TyForm.TheVariants.{Var};
 ghost use Rattle.sml_types.specs.declared.types.TyVar.{TyVar};
@@ -33,6 +33,7 @@ pub(crate) fn bind_pair(
     ensures step { IsStep names.now types.old bound.old pair types.new bound.new result }
     ensures logged { (old : List (Option Ty)) → IsLogged old bound.old log.old.items → IsLogged old bound.new log.new.items }
     ensures longer { IsLonger types.old types.new }
+    ensures fresh { AreFresh types.old bound.old types.new }
 {
     let var = variable(types.forms(), pair.left);
     if stands_in(alloc, types.forms(), bound.items(), var.num, pair.right)? {
@@ -78,6 +79,7 @@ pub(crate) fn solve(
     ensures unified { IsUnified names.now types.old bound.old work.old.items types.new bound.new result }
     ensures logged { (old : List (Option Ty)) → IsLogged old bound.old log.old.items → IsLogged old bound.new log.new.items }
     ensures longer { IsLonger types.old types.new }
+    ensures fresh { AreFresh types.old bound.old types.new }
 {
     'pairs: loop {
         match simplify(alloc, types.forms(), bound.items(), work) {

@@ -7,11 +7,12 @@ use Rattle.sml_types.specs.declared.types.TyForm.TheVariants.{Var}
 use Rattle.sml_types.specs.Tree.{occurs, admits}
 use Rattle.sml_unify.specs.Solved.{next_number, meant, under}
 use Rattle.sml_unify.specs.Simplified.{IsMarking, IsToMark}
-use Rattle.sml_unify.specs.Steps.{IsLonger}
+use Rattle.sml_unify.specs.Steps.{IsLonger, AreFresh}
 use Rattle.sml_unify.specs.Outcomes.{IsStep}
 use Rattle.sml_unify.proofs.Extends.{new_longer}
 use Rattle.sml_unify.proofs.PairSteps.{cycle_named, marking_error, step_bound, step_marked}
 use Rattle.sml_unify.proofs.solve.bind_pair.Goals.{then-var+in-Ok-None, else-var}
+use Rattle.sml_unify.proofs.Fresh.{fresh_one, fresh_none}
 use Rattle.sml_unify.proofs.solve.bind_pair.Goals as goal
 
 pub returns-then-branch-clause-step : goal.returns-then-branch-clause-step
@@ -61,3 +62,13 @@ returns-clause-step c =
       | else-var w ↦ λ e. cc (e, w.if-var.false)
     ] in
     step_bound c.args.names.now c.args.types.now c.args.bound.now c.requires.solved c.args.pair c.requires.pair c.variable-var.result one o c.bind_logged-2.new.bound c.in_ok-bind_logged.ensures.ok c.bind_logged-2.ensures.longer marked
+
+pub returns-in_err-bind_logged-in-Ok-Some-clause-fresh : goal.returns-in_err-bind_logged-in-Ok-Some-clause-fresh
+returns-in_err-bind_logged-in-Ok-Some-clause-fresh c =
+    let e = c.in_ok-marked-in-Ok-Some.ensures.ok.1 ∙ ap (λ D. c.args.types.now ++ Var (record { num = next_number c.args.types.now D; eq = true }) ∷ []) c.items-in-Ok-Some.ensures in
+    subst (λ (F : List TyForm). AreFresh c.args.types.now c.args.bound.now F) (sym e) (fresh_one c.args.types.now c.args.bound.now (record { num = next_number c.args.types.now c.args.bound.now; eq = true }) refl refl)
+
+pub returns-in-Ok-Some-clause-fresh : goal.returns-in-Ok-Some-clause-fresh
+returns-in-Ok-Some-clause-fresh c =
+    let e = c.in_ok-marked-in-Ok-Some.ensures.ok.1 ∙ ap (λ D. c.args.types.now ++ Var (record { num = next_number c.args.types.now D; eq = true }) ∷ []) c.items-in-Ok-Some.ensures in
+    subst (λ (F : List TyForm). AreFresh c.args.types.now c.args.bound.now F) (sym e) (fresh_one c.args.types.now c.args.bound.now (record { num = next_number c.args.types.now c.args.bound.now; eq = true }) refl refl)
