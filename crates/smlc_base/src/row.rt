@@ -1,6 +1,6 @@
 //! A list that contracts see as the list of its items.
 
-ghost use Rattle.std.specs.Prelude.{◌≡◌, [], ◌∷◌, ◌++◌, length, OnOk, OnErr, IsTrue, ◌↔◌};
+ghost use Rattle.std.specs.Prelude.{◌≡◌, ◌<◌, [], ◌∷◌, ◌++◌, length, slice_set, take, OnOk, OnErr, IsTrue, ◌↔◌};
 ghost use Rattle.smlc_base.specs.declared.memory.NoMemory.{NoMemory};
 
 use crate::memory::NoMemory;
@@ -68,6 +68,11 @@ impl<T> Row<T> {
     {
         self.items.is_empty()
     }
+
+    /// Where it takes its memory.
+    pub fn allocator(&self) -> Global {
+        *self.items.allocator()
+    }
 }
 
 impl<T: Drop> Row<T> {
@@ -78,5 +83,20 @@ impl<T: Drop> Row<T> {
     {
         self.items.push(item)?;
         Ok(())
+    }
+
+    /// Puts the item in the place of another.
+    pub fn set(&mut self, at: usize, item: T)
+        requires { at < length self.old }
+        ensures { self.new ≡ slice_set self.old at item }
+    {
+        self.items[at] = item;
+    }
+
+    /// Keeps the first items alone.
+    pub fn truncate(&mut self, count: usize)
+        ensures { self.new ≡ take count self.old }
+    {
+        self.items.truncate(count);
     }
 }

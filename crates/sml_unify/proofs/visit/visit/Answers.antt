@@ -1,0 +1,10 @@
+use Rattle.std.proofs.Common.{◌≡◌, Bool, true, false, not, ℕ, List, refl, sym, ap, ◌∙◌}
+use Rattle.std.specs.Prelude.{nat_eq}
+use Rattle.indexmap.specs.IndexSet.{insert_key}
+use Rattle.sml_unify.specs.Steps.{logged}
+use Rattle.sml_unify.specs.Visit.{IsVisit}
+use Rattle.sml_unify.proofs.Visits.{visited}
+use Rattle.sml_unify.proofs.visit.visit.Goals as goal
+
+pub returns : goal.returns
+returns c = visited c.args.seen.now.keys c.args.num c.in_ok-first.first c.insert.new.self.keys c.in_ok-first.ensures.added c.in_ok-first.ensures.keys

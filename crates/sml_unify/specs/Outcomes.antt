@@ -1,0 +1,28 @@
+-- What one step answers, and many.
+use Rattle.std.specs.Prelude.{◌≡◌, ℕ, ◌<◌, ◌≤◌, Bool, true, false, Option, Some, None, Result, Ok, Err, List, [], ◌∷◌, length, slice_get, nat_eq}
+use Rattle.std.specs.List.{list_any}
+use Rattle.sml_types.specs.declared.types.Ty.{Ty}
+use Rattle.sml_types.specs.declared.types.TyForm.{TyForm}
+use Rattle.sml_types.specs.declared.tables.TypeName.{TypeName}
+use Rattle.sml_types.specs.Forms.{tree}
+use Rattle.sml_unify.specs.declared.pair.Pair.{Pair}
+use Rattle.sml_unify.specs.declared.error.UnifyError.{UnifyError}
+use Rattle.sml_unify.specs.declared.error.UnifyError.TheVariants.{Clash, Cycle, NoEquality, NoMemory}
+use Rattle.sml_unify.specs.Solved.{Substitution, Solves, Respects, IsSolved, IsEqualPair, AreEqual, Agrees, next_number, weight, meant}
+use Rattle.sml_unify.specs.Steps.{IsExtension, IsRefuted}
+use Rattle.sml_unify.specs.Named.{Fails, turned}
+
+-- the answer of one step: whether the pair is equal from now on
+abbrev pub IsStep : List TypeName → List TyForm → List (Option Ty) → Pair → List TyForm → List (Option Ty) → Result Bool UnifyError → Type 0
+IsStep names forms bound p forms2 bound2 (Ok true) = IsExtension names forms bound (p ∷ []) forms2 bound2 × ((f : Substitution) → Solves forms2 bound2 f → IsEqualPair forms f p) × (weight forms2 bound2 < weight forms bound)
+IsStep names forms bound p forms2 bound2 (Ok false) = IsExtension names forms bound (p ∷ []) forms2 bound2 × (weight forms2 bound2 < weight forms bound) × ((rest : List Pair) (e : UnifyError) → Fails names forms2 bound2 (p ∷ rest) e → Fails names forms bound (p ∷ rest) e)
+IsStep names forms bound p forms2 bound2 (Err Cycle) = IsRefuted names forms bound (p ∷ []) × ((rest : List Pair) → Fails names forms bound (p ∷ rest) Cycle)
+IsStep names forms bound p forms2 bound2 (Err NoEquality) = IsRefuted names forms bound (p ∷ []) × ((rest : List Pair) → Fails names forms bound (p ∷ rest) NoEquality)
+IsStep names forms bound p forms2 bound2 (Err NoMemory) = Unit {0}
+IsStep names forms bound p forms2 bound2 (Err Clash) = ⊥
+
+-- the answer for a list of pairs, the last first
+abbrev pub IsUnified : List TypeName → List TyForm → List (Option Ty) → List Pair → List TyForm → List (Option Ty) → Result Unit UnifyError → Type 0
+IsUnified names forms bound pairs forms2 bound2 (Ok _) = IsExtension names forms bound pairs forms2 bound2 × ((f : Substitution) → Solves forms2 bound2 f → AreEqual forms f pairs)
+IsUnified names forms bound pairs forms2 bound2 (Err NoMemory) = Unit {0}
+IsUnified names forms bound pairs forms2 bound2 (Err e) = IsRefuted names forms bound pairs × Fails names forms bound (turned pairs) e

@@ -1,0 +1,10 @@
+//! Pairs of types.
+
+use sml_types::Ty;
+
+/// Two types that are to be equal.
+#[derive(Clone, Copy, Debug, Drop)]
+pub struct Pair {
+    pub left: Ty,
+    pub right: Ty,
+}
