@@ -1,0 +1,4 @@
+pub mod Standing
+pub mod TypesAccepted
+pub mod PatternSteps
+pub mod PatternsAccepted
