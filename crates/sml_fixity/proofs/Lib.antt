@@ -2,3 +2,4 @@ pub mod Standing
 pub mod TypesAccepted
 pub mod PatternSteps
 pub mod PatternsAccepted
+pub mod HeadSteps
