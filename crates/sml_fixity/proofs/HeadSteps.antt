@@ -25,7 +25,8 @@ use Rattle.sml_syntax.specs.declared.symbol.Move.TheVariants.{Refuse, Mixed, Ski
 use Rattle.sml_syntax.specs.Fixity.{Fix, looks}
 use Rattle.sml_syntax.specs.Moves.{is_ident, is_atpat, at_head, at_head_name, at_head_op, at_atpats_rest, at_head_paren, at_head_first_op, at_head_first_name, at_head_first, at_head_second, at_head_second_name, at_head_second_end, at_head_end, at_head_closed, at_pat_long, at_pat_name, at_pat_operand, at_pat_arg, at_pat_op, at_pat_paren, at_pat_paren_rest}
 use Rattle.sml_syntax.specs.Machine.{Accepts, has_infix, emit, skip, eat, moves, pushed}
-use Rattle.sml_fixity.proofs.Standing.{name_case, Next, next_weaker, skip_inv, eat_inv, emit_inv, Grows, grow}
+use Rattle.sml_fixity.specs.Ends.{}
+use Rattle.sml_fixity.proofs.Standing.{name_case, next_weaker, skip_inv, eat_inv, emit_inv, Grows, grow}
 use Rattle.sml_fixity.proofs.PatternSteps.{at_first, id_first, atpat_name, ident_atpat}
 
 module _ (v : Bool) where

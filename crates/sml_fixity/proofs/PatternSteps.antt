@@ -27,18 +27,9 @@ use Rattle.sml_syntax.specs.Fixity.{Fix, looks, is_label, alike, lefts, rights, 
 use Rattle.sml_syntax.specs.Grammar.{Kind, Phrase, IsVid, IsOpVid, IsLongVid, IsLabel, IsScon, IsPat, IsTypedPat, IsInfixPat, IsOperand, IsAtpat, IsPats, IsPatRows, IsPatRow, IsPun, vid, vid_equals, plain_vid, op_vid, short_vid, long_vid, op_long_vid, label, label_number, int, char, text, typed_pat_pat, layered, typed_layered, infix_pat_typed, typed_pat, operand_pat, infix_pat, atpat_operand, con_pat, wild, vid_pat, scon_pat, empty_record_pat, record_pat, unit_pat, tuple_pat, empty_list_pat, list_pat, paren_pat, last_pat, more_pats, last_pat_row, more_pat_rows, pat_row, pun_row, typed_pun_row, pun_row_as, typed_pun_row_as, pun}
 use Rattle.sml_syntax.specs.Moves.{is_ident, is_atpat, ends_at, at_any_vid, at_any_long, at_op_vid, at_long_vid, at_pat, at_pat_op, at_pat_name, at_pat_name_ty, at_pat_long, at_pat_ty_rest, at_pat_ops, at_pat_operand, at_pat_arg, at_atpat, at_pat_paren, at_pat_list, at_pat_record, at_pats_rest, at_pat_row, at_pat_rows_rest, at_pun_row, at_pun_row_ty}
 use Rattle.sml_syntax.specs.Machine.{Accepts, emit, skip, eat, moves, pushed}
-use Rattle.sml_fixity.proofs.Standing.{name_case, Next, next_weaker, skip_inv}
-use Rattle.sml_fixity.proofs.TypesAccepted.{ends_ty, ends_list, complete_ty}
-
--- what ends a pattern
-abbrev pub ends_pat : Look → Bool
-ends_pat (look.Other tok.Equals) = true
-ends_pat (look.Other tok.Arrow) = true
-ends_pat (look.Other tok.Comma) = true
-ends_pat (look.Other tok.Close) = true
-ends_pat (look.Other tok.CloseBracket) = true
-ends_pat (look.Other tok.CloseBrace) = true
-ends_pat _ = false
+use Rattle.sml_fixity.specs.Ends.{Next, ends_ty, ends_pat}
+use Rattle.sml_fixity.proofs.Standing.{name_case, next_weaker, skip_inv}
+use Rattle.sml_fixity.proofs.TypesAccepted.{ends_list, complete_ty}
 
 -- what ends a typed pattern
 abbrev pub ends_typed : Look → Bool

@@ -23,6 +23,7 @@ use Rattle.sml_syntax.specs.declared.symbol.Push.TheVariants.{P0, P1, P2, P3, P4
 use Rattle.sml_syntax.specs.declared.symbol.Move.{Move}
 use Rattle.sml_syntax.specs.declared.symbol.Move.TheVariants.{Refuse, Mixed, Skip, Eat}
 use Rattle.sml_syntax.specs.Fixity.{Fix, directive_for, name_look, looks}
+use Rattle.sml_fixity.specs.Ends.{Next}
 use Rattle.sml_syntax.specs.Machine.{Accepts, done, emit, skip, eat, moves, pushed, after}
 
 -- an identifier under the directives in force
@@ -33,11 +34,6 @@ name_case f x s P g h = go (directive_for f x)
     go None = g
     go (Some status.Nonfix) = g
     go (Some (status.Infix l r)) = h l r
-
--- what stands next passes a test
-abbrev pub Next : (Look → Bool) → Fix → List Terminal → Type 0
-Next q f [] = ⊥
-Next q f (t ∷ a) = q (looks f t) ≡ true
 
 pub next_weaker : (q r : Look → Bool) → ((l : Look) → q l ≡ true → r l ≡ true) → (f : Fix) (a : List Terminal) → Next q f a → Next r f a
 next_weaker q r w f [] n = n
