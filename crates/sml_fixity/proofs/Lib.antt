@@ -5,3 +5,5 @@ pub mod PatternsAccepted
 pub mod HeadSteps
 pub mod HeadsAccepted
 pub mod ExpressionSteps
+pub mod DecSteps
+pub mod ProgramsAccepted
