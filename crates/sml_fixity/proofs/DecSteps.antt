@@ -1,35 +1,27 @@
 -- The steps of declarations: what ends one, and which symbols let it go.
-use Rattle.std.proofs.Common.{◌≡◌, ℕ, ◌⊎◌, inl, inr, Bool, true, false, cond, not, List, [], ◌∷◌, length, refl, subst}
+use Rattle.std.proofs.Common.{◌≡◌, ℕ, ◌⊎◌, inl, inr, Bool, true, false, cond, List, [], ◌∷◌, length, refl, subst}
 use Rattle.smlc_base.specs.declared.names.Name.{Name}
 use Rattle.sml_tree.specs.declared.status.Status.{Status}
-use Rattle.sml_tree.specs.declared.status.Status.TheVariants as status
-use Rattle.sml_tree.specs.declared.tree_node.TreeNode.{TreeNode}
 use Rattle.sml_tree.specs.declared.tree_node.TreeNode.TheVariants as node
 use Rattle.sml_syntax.specs.declared.forms.Terminal.{Terminal}
 use Rattle.sml_syntax.specs.declared.forms.Terminal.TheVariants as tok
-use Rattle.sml_syntax.specs.declared.forms.Shape.{Shape}
-use Rattle.sml_syntax.specs.declared.forms.Shape.TheVariants as shape
 use Rattle.sml_syntax.specs.declared.forms.Made.{Made}
 use Rattle.sml_syntax.specs.declared.forms.Made.TheVariants as made
-use Rattle.sml_syntax.specs.declared.forms.Root.{Root}
 use Rattle.sml_syntax.specs.declared.forms.Root.TheVariants as root
 use Rattle.sml_syntax.specs.declared.forms.Look.{Look}
 use Rattle.sml_syntax.specs.declared.forms.Look.TheVariants as look
-use Rattle.sml_syntax.specs.declared.forms.InfixVid.{InfixVid}
 use Rattle.sml_syntax.specs.declared.symbol.Symbol.{Symbol}
 use Rattle.sml_syntax.specs.declared.symbol.Symbol.TheVariants as sy
 use Rattle.sml_syntax.specs.declared.symbol.Push.{Push}
-use Rattle.sml_syntax.specs.declared.symbol.Push.TheVariants.{P0, P1, P2, P3, P4, P5, P6, P7}
-use Rattle.sml_syntax.specs.declared.symbol.Move.{Move}
-use Rattle.sml_syntax.specs.declared.symbol.Move.TheVariants.{Refuse, Mixed, Skip, Eat}
-use Rattle.sml_syntax.specs.Fixity.{Fix, looks, is_label}
-use Rattle.sml_syntax.specs.Moves.{is_ident, is_atpat, is_dec, is_prefix, at_program, at_decs, at_dec, at_vids_rest, at_val_ty_vars, at_val_paren, at_ty_var_list, at_ty_vars_rest, at_val_bind, at_val_and, at_fun_ty_vars, at_fun_paren, at_fun_and, at_clause_bar, at_head, at_head_paren, at_typ_and, at_ty_vars, at_ty_con, at_dat_and, at_con_of, at_con_bar, at_ex_rest, at_ex_and, at_label, at_paren_exp, at_list_exp, at_record_exp, at_exp}
+use Rattle.sml_syntax.specs.declared.symbol.Push.TheVariants.{P0, P1, P2, P3, P4, P5}
+use Rattle.sml_syntax.specs.declared.symbol.Move.TheVariants.{Refuse, Skip, Eat}
+use Rattle.sml_syntax.specs.Fixity.{Fix, looks}
+use Rattle.sml_syntax.specs.Moves.{is_atpat, is_dec, at_program, at_decs, at_vids_rest, at_val_ty_vars, at_val_paren, at_ty_var_list, at_val_and, at_fun_ty_vars, at_fun_paren, at_fun_and, at_clause_bar, at_typ_and, at_ty_vars, at_dat_and, at_con_of, at_con_bar, at_ex_rest, at_ex_and}
 use Rattle.sml_syntax.specs.Machine.{Accepts, has_infix, move_of, emit, skip, eat, moves, pushed}
-use Rattle.sml_fixity.specs.Ends.{Next, ends_ty, ends_pat}
-use Rattle.sml_fixity.proofs.Standing.{name_case, next_weaker, skip_inv, eat_inv}
-use Rattle.sml_fixity.proofs.TypesAccepted.{ends_list}
+use Rattle.sml_fixity.specs.Ends.{Next, ends_ty}
+use Rattle.sml_fixity.proofs.Standing.{name_case, skip_inv, eat_inv}
 use Rattle.sml_fixity.proofs.PatternSteps.{at_first}
-use Rattle.sml_fixity.proofs.ExpressionSteps.{exp_end, exp_first}
+use Rattle.sml_fixity.proofs.ExpressionSteps.{exp_end}
 
 -- what stands behind a declaration
 abbrev pub dec_end : Look → Bool

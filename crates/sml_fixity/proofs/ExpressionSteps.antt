@@ -1,15 +1,10 @@
 -- The steps of expressions: what ends one, and which symbols let it go.
 use Rattle.std.proofs.lemmas.Bool.Decides.{nat_tests}
-use Rattle.std.proofs.Common.{◌≡◌, ℕ, arith, ◌⊎◌, inl, inr, Bool, true, false, cond, not, ◌&&◌, ◌||◌, Option, Some, None, List, [], ◌∷◌, length, refl, sym, ap, ◌∙◌, subst}
-use Rattle.smlc_base.specs.declared.names.Name.{Name}
-use Rattle.sml_tree.specs.declared.status.Status.{Status}
-use Rattle.sml_tree.specs.declared.status.Status.TheVariants as status
+use Rattle.std.proofs.Common.{◌≡◌, ℕ, arith, ◌⊎◌, inl, inr, Bool, true, false, not, Option, Some, None, List, [], ◌∷◌, length, refl, sym, ap, ◌∙◌}
 use Rattle.sml_tree.specs.declared.tree_node.TreeNode.{TreeNode}
 use Rattle.sml_tree.specs.declared.tree_node.TreeNode.TheVariants as node
 use Rattle.sml_syntax.specs.declared.forms.Terminal.{Terminal}
 use Rattle.sml_syntax.specs.declared.forms.Terminal.TheVariants as tok
-use Rattle.sml_syntax.specs.declared.forms.Shape.{Shape}
-use Rattle.sml_syntax.specs.declared.forms.Shape.TheVariants as shape
 use Rattle.sml_syntax.specs.declared.forms.Made.{Made}
 use Rattle.sml_syntax.specs.declared.forms.Made.TheVariants as made
 use Rattle.sml_syntax.specs.declared.forms.Root.{Root}
@@ -20,14 +15,12 @@ use Rattle.sml_syntax.specs.declared.forms.InfixVid.{InfixVid}
 use Rattle.sml_syntax.specs.declared.symbol.Symbol.{Symbol}
 use Rattle.sml_syntax.specs.declared.symbol.Symbol.TheVariants as sy
 use Rattle.sml_syntax.specs.declared.symbol.Push.{Push}
-use Rattle.sml_syntax.specs.declared.symbol.Push.TheVariants.{P0, P1, P2, P3, P4, P5, P6, P7}
-use Rattle.sml_syntax.specs.declared.symbol.Move.{Move}
-use Rattle.sml_syntax.specs.declared.symbol.Move.TheVariants.{Refuse, Mixed, Skip, Eat}
+use Rattle.sml_syntax.specs.declared.symbol.Push.TheVariants.{P0, P1, P3, P4, P5, P6, P7}
+use Rattle.sml_syntax.specs.declared.symbol.Move.TheVariants.{Skip, Eat}
 use Rattle.sml_syntax.specs.Fixity.{Fix, looks, operates, alike, lefts, rights, fits}
-use Rattle.sml_syntax.specs.Moves.{is_ident, is_atexp, is_prefix, ends_at, at_exp, at_prefix, at_ty_rest, at_and_rest, at_and_right, at_or_rest, at_or_right, at_handle_rest, at_args, at_ops, at_operates, at_match_bar, at_atexp, at_seq_rest, at_paren_exp, at_items_rest, at_list_exp, at_record_exp, at_rows_rest}
-use Rattle.sml_syntax.specs.Machine.{Accepts, emit, skip, eat, moves, pushed}
+use Rattle.sml_syntax.specs.Moves.{is_ident, is_atexp, is_prefix, at_prefix, at_ty_rest, at_and_rest, at_or_rest, at_handle_rest, at_operates, at_match_bar, at_atexp, at_seq_rest, at_items_rest, at_rows_rest}
+use Rattle.sml_syntax.specs.Machine.{Accepts, emit, skip, eat}
 use Rattle.sml_fixity.specs.Ends.{Next, ends_ty}
-use Rattle.sml_fixity.proofs.Standing.{name_case, next_weaker, skip_inv}
 use Rattle.sml_fixity.proofs.TypesAccepted.{ends_list}
 use Rattle.sml_fixity.proofs.PatternsAccepted.{ops_never}
 

@@ -1,33 +1,26 @@
 -- A head of a clause: what a pattern before an infix name makes the machine accept, its head accepts.
-use Rattle.std.proofs.Common.{◌≡◌, ℕ, ◌⊎◌, inl, inr, Bool, true, false, cond, List, [], ◌∷◌, length, refl, sym, ap, ◌∙◌, subst}
+use Rattle.std.proofs.Common.{◌≡◌, ℕ, Bool, true, false, cond, List, [], ◌∷◌, length, refl, sym, ap, ◌∙◌, subst}
 use Rattle.smlc_base.specs.declared.names.Name.{Name}
-use Rattle.sml_tree.specs.declared.status.Status.{Status}
-use Rattle.sml_tree.specs.declared.status.Status.TheVariants as status
-use Rattle.sml_tree.specs.declared.tree_node.TreeNode.{TreeNode}
 use Rattle.sml_tree.specs.declared.tree_node.TreeNode.TheVariants as node
 use Rattle.sml_syntax.specs.declared.forms.Terminal.{Terminal}
 use Rattle.sml_syntax.specs.declared.forms.Terminal.TheVariants as tok
-use Rattle.sml_syntax.specs.declared.forms.Shape.{Shape}
-use Rattle.sml_syntax.specs.declared.forms.Shape.TheVariants as shape
 use Rattle.sml_syntax.specs.declared.forms.Made.{Made}
 use Rattle.sml_syntax.specs.declared.forms.Made.TheVariants as made
 use Rattle.sml_syntax.specs.declared.forms.Root.{Root}
 use Rattle.sml_syntax.specs.declared.forms.Root.TheVariants as root
 use Rattle.sml_syntax.specs.declared.forms.Look.{Look}
 use Rattle.sml_syntax.specs.declared.forms.Look.TheVariants as look
-use Rattle.sml_syntax.specs.declared.forms.InfixVid.{InfixVid}
 use Rattle.sml_syntax.specs.declared.symbol.Symbol.{Symbol}
 use Rattle.sml_syntax.specs.declared.symbol.Symbol.TheVariants as sy
 use Rattle.sml_syntax.specs.declared.symbol.Push.{Push}
-use Rattle.sml_syntax.specs.declared.symbol.Push.TheVariants.{P0, P1, P2, P3, P4, P5, P6, P7}
-use Rattle.sml_syntax.specs.declared.symbol.Move.{Move}
-use Rattle.sml_syntax.specs.declared.symbol.Move.TheVariants.{Refuse, Mixed, Skip, Eat}
+use Rattle.sml_syntax.specs.declared.symbol.Push.TheVariants.{P0, P1, P2, P3, P4, P5, P7}
+use Rattle.sml_syntax.specs.declared.symbol.Move.TheVariants.{Refuse, Skip, Eat}
 use Rattle.sml_syntax.specs.Fixity.{Fix, looks}
-use Rattle.sml_syntax.specs.Moves.{is_ident, is_atpat, at_head, at_head_name, at_head_op, at_atpats_rest, at_head_paren, at_head_first_op, at_head_first_name, at_head_first, at_head_second, at_head_second_name, at_head_second_end, at_head_end, at_head_closed, at_pat_long, at_pat_name, at_pat_operand, at_pat_arg, at_pat_op, at_pat_paren, at_pat_paren_rest}
-use Rattle.sml_syntax.specs.Machine.{Accepts, has_infix, emit, skip, eat, moves, pushed}
+use Rattle.sml_syntax.specs.Moves.{is_ident, is_atpat, at_head, at_head_name, at_head_op, at_head_first_op, at_head_second_end, at_head_end, at_head_closed, at_pat_op, at_pat_paren, at_pat_paren_rest}
+use Rattle.sml_syntax.specs.Machine.{Accepts, has_infix, emit, skip, eat, pushed}
 use Rattle.sml_fixity.specs.Ends.{}
-use Rattle.sml_fixity.proofs.Standing.{name_case, next_weaker, skip_inv, eat_inv, emit_inv, Grows, grow}
-use Rattle.sml_fixity.proofs.PatternSteps.{at_first, id_first, atpat_name, ident_atpat}
+use Rattle.sml_fixity.proofs.Standing.{name_case, skip_inv, eat_inv, emit_inv, Grows, grow}
+use Rattle.sml_fixity.proofs.PatternSteps.{at_first, atpat_name, ident_atpat}
 
 module _ (v : Bool) where
   -- an operator goes on a head

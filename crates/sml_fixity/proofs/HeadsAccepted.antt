@@ -1,35 +1,28 @@
 -- The machine accepts each head of a clause, with its nodes.
 use Rattle.std.proofs.lemmas.Bool.Decides.{nat_tests}
-use Rattle.std.proofs.Common.{◌≡◌, ℕ, arith, ◌⊎◌, inl, inr, Bool, true, false, cond, not, ◌||◌, nat_eq, Option, Some, None, List, [], ◌∷◌, length, refl, sym, ap, ◌∙◌, subst}
+use Rattle.std.proofs.Common.{◌≡◌, ℕ, arith, Bool, true, false, cond, ◌||◌, nat_eq, Option, Some, None, List, [], ◌∷◌, length, refl, ap, ◌∙◌, subst}
 use Rattle.smlc_base.specs.declared.names.Name.{Name}
 use Rattle.sml_tree.specs.declared.status.Status.{Status}
 use Rattle.sml_tree.specs.declared.status.Status.TheVariants as status
-use Rattle.sml_tree.specs.declared.tree_node.TreeNode.{TreeNode}
 use Rattle.sml_tree.specs.declared.tree_node.TreeNode.TheVariants as node
 use Rattle.sml_syntax.specs.declared.forms.Terminal.{Terminal}
 use Rattle.sml_syntax.specs.declared.forms.Terminal.TheVariants as tok
-use Rattle.sml_syntax.specs.declared.forms.Shape.{Shape}
-use Rattle.sml_syntax.specs.declared.forms.Shape.TheVariants as shape
 use Rattle.sml_syntax.specs.declared.forms.Made.{Made}
 use Rattle.sml_syntax.specs.declared.forms.Made.TheVariants as made
 use Rattle.sml_syntax.specs.declared.forms.Root.{Root}
 use Rattle.sml_syntax.specs.declared.forms.Root.TheVariants as root
 use Rattle.sml_syntax.specs.declared.forms.Look.{Look}
 use Rattle.sml_syntax.specs.declared.forms.Look.TheVariants as look
-use Rattle.sml_syntax.specs.declared.forms.InfixVid.{InfixVid}
 use Rattle.sml_syntax.specs.declared.symbol.Symbol.{Symbol}
 use Rattle.sml_syntax.specs.declared.symbol.Symbol.TheVariants as sy
-use Rattle.sml_syntax.specs.declared.symbol.Push.{Push}
-use Rattle.sml_syntax.specs.declared.symbol.Push.TheVariants.{P0, P1, P2, P3, P4, P5, P6, P7}
-use Rattle.sml_syntax.specs.declared.symbol.Move.{Move}
-use Rattle.sml_syntax.specs.declared.symbol.Move.TheVariants.{Refuse, Mixed, Skip, Eat}
-use Rattle.sml_syntax.specs.declared.forms.Directive.{Directive}
+use Rattle.sml_syntax.specs.declared.symbol.Push.TheVariants.{P0, P1, P2, P3}
+use Rattle.sml_syntax.specs.declared.symbol.Move.TheVariants.{Skip, Eat}
 use Rattle.sml_syntax.specs.Fixity.{Fix, looks, name_look, directive_for, or_else}
 use Rattle.sml_syntax.specs.Grammar.{Kind, Phrase, IsVid, IsOpVid, IsLongVid, IsAtpat, IsAtpats, IsHead, vid, vid_equals, plain_vid, op_vid, short_vid, long_vid, op_long_vid, wild, vid_pat, scon_pat, int, char, text, IsScon, empty_record_pat, record_pat, unit_pat, tuple_pat, empty_list_pat, list_pat, paren_pat, last_atpat, more_atpats, prefix_head, infix_head, paren_head, paren_head_args}
-use Rattle.sml_syntax.specs.Moves.{is_ident, is_atpat, at_head, at_head_name, at_head_op, at_atpats_rest, at_head_paren, at_head_first_op, at_head_first_name, at_head_first, at_head_second, at_head_second_name, at_head_second_end, at_head_closed}
-use Rattle.sml_syntax.specs.Machine.{Accepts, has_infix, infix_among, is_infix, emit, skip, eat, moves, pushed}
+use Rattle.sml_syntax.specs.Moves.{is_ident, is_atpat, at_head, at_head_name, at_atpats_rest, at_head_first_op, at_head_second, at_head_closed}
+use Rattle.sml_syntax.specs.Machine.{Accepts, has_infix, infix_among, is_infix, emit, skip, eat}
 use Rattle.sml_fixity.specs.Ends.{Next}
-use Rattle.sml_fixity.proofs.Standing.{name_case, next_weaker, skip_inv}
+use Rattle.sml_fixity.proofs.Standing.{name_case, skip_inv}
 use Rattle.sml_fixity.proofs.PatternSteps.{at_first, id_first}
 use Rattle.sml_fixity.proofs.PatternsAccepted.{complete_pat}
 use Rattle.sml_fixity.proofs.HeadSteps.{head}
@@ -130,9 +123,9 @@ module _ (v : Bool) where
   first_op : {f : Fix} {t : Terminal} {x : Name} {s r : Bool} {l : ℕ} {a b : List Terminal} {o p : List Made} {k : List Symbol} {n : ℕ} → Phrase v IsAtpat f a (t ∷ b) o (made.Lead (node.Vid x) (length (t ∷ b)) ∷ p) → looks f t ≡ look.Operator x s l r → Accepts v (sy.HeadSecond (root.Operator l r) n ∷ k) f b p → Accepts v (sy.HeadParen n ∷ k) f a o
   first_op {t = t} {x = x} {r = r} {l = l} {b = b} {k = k} {n = n} h i g =
       first h k n
-        (eat {p = P2 (sy.Emit (made.Lead (node.Vid x) (length (t ∷ b)))) (sy.HeadSecond (root.Operator l r) n)} (rw i refl) (emit g))
-        (eat {p = P2 (sy.Emit (made.Lead (node.Vid x) (length (t ∷ b)))) (sy.HeadSecond (root.Operator l r) n)} (rw i refl) (emit g))
-        (eat {p = P2 (sy.Emit (made.Lead (node.Vid x) (length (t ∷ b)))) (sy.HeadSecond (root.Operator l r) n)} (rw i refl) (emit g))
+      (eat {p = P2 (sy.Emit (made.Lead (node.Vid x) (length (t ∷ b)))) (sy.HeadSecond (root.Operator l r) n)} (rw i refl) (emit g))
+      (eat {p = P2 (sy.Emit (made.Lead (node.Vid x) (length (t ∷ b)))) (sy.HeadSecond (root.Operator l r) n)} (rw i refl) (emit g))
+      (eat {p = P2 (sy.Emit (made.Lead (node.Vid x) (length (t ∷ b)))) (sy.HeadSecond (root.Operator l r) n)} (rw i refl) (emit g))
 
   -- the second operand, before the closing parenthesis
   abbrev GoalSecond : Kind → Fix → List Terminal → List Terminal → List Made → List Made → Type 0

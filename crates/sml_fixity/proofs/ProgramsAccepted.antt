@@ -1,40 +1,35 @@
 -- The machine accepts each program, with its nodes.
-use Rattle.std.proofs.Common.{◌≡◌, ℕ, ◌++◌, ◌⊎◌, inl, inr, Bool, true, false, cond, not, take, drop, append-nil, append_assoc, Option, Some, None, List, [], ◌∷◌, length, refl, sym, ap, ◌∙◌, subst}
+use Rattle.std.proofs.Common.{◌≡◌, ℕ, ◌++◌, ◌⊎◌, inl, inr, Bool, true, false, not, take, drop, append-nil, append_assoc, Some, List, [], ◌∷◌, length, refl, sym, ap, ◌∙◌, subst}
 use Rattle.std.proofs.Math.Seq.{take-append_seam}
-use Rattle.smlc_base.specs.declared.names.Name.{Name}
 use Rattle.sml_tree.specs.declared.status.Status.{Status}
 use Rattle.sml_tree.specs.declared.status.Status.TheVariants as status
 use Rattle.sml_tree.specs.declared.tree_node.TreeNode.{TreeNode}
 use Rattle.sml_tree.specs.declared.tree_node.TreeNode.TheVariants as node
 use Rattle.sml_syntax.specs.declared.forms.Terminal.{Terminal}
 use Rattle.sml_syntax.specs.declared.forms.Terminal.TheVariants as tok
-use Rattle.sml_syntax.specs.declared.forms.Shape.{Shape}
-use Rattle.sml_syntax.specs.declared.forms.Shape.TheVariants as shape
 use Rattle.sml_syntax.specs.declared.forms.Made.{Made}
 use Rattle.sml_syntax.specs.declared.forms.Made.TheVariants as made
 use Rattle.sml_syntax.specs.declared.forms.Root.{Root}
 use Rattle.sml_syntax.specs.declared.forms.Root.TheVariants as root
 use Rattle.sml_syntax.specs.declared.forms.Look.{Look}
 use Rattle.sml_syntax.specs.declared.forms.Look.TheVariants as look
-use Rattle.sml_syntax.specs.declared.forms.InfixVid.{InfixVid}
 use Rattle.sml_syntax.specs.declared.symbol.Symbol.{Symbol}
 use Rattle.sml_syntax.specs.declared.symbol.Symbol.TheVariants as sy
 use Rattle.sml_syntax.specs.declared.symbol.Push.{Push}
-use Rattle.sml_syntax.specs.declared.symbol.Push.TheVariants.{P0, P1, P2, P3, P4, P5, P6, P7}
-use Rattle.sml_syntax.specs.declared.symbol.Move.{Move}
-use Rattle.sml_syntax.specs.declared.symbol.Move.TheVariants.{Refuse, Mixed, Skip, Eat}
-use Rattle.sml_syntax.specs.Grammar.{Kind, Phrase, Parses, IsProgram, IsDecs, IsDec, IsDigit, IsVids, IsClause, IsExp, IsConjEnd, IsPrefix, IsRule, IsInfix, IsInfixPat, IsTyVars, IsTyVarList, IsValBind, IsFunBinds, IsClauses, IsHead, IsAtpats, IsTypBinds, IsTypBind, IsDatBinds, IsDatBind, IsConBinds, IsConBind, IsExBinds, IsExBind, IsVid, IsOpVid, IsLongVid, IsTyCon, IsLongTyCon, IsLabel, IsScon, IsDisj, IsConj, IsTyped, IsApp, IsAtexp, IsItems, IsSeq, IsRows, IsMatch, IsPat, IsTypedPat, IsOperand, IsAtpat, IsPats, IsPatRows, IsPatRow, IsPun, IsTy, IsProduct, IsFactors, IsTyAtom, IsTys, IsTyRows, IsTyRow, no_program, program_semicolon, program_dec, no_decs, decs_semicolon, more_decs, val_dec, fun_dec, type_dec, datatype_dec, exception_dec, local_dec, infix_dec, infixr_dec, nonfix_dec, no_digit, digit, last_vid, more_vids, no_tyvars, one_tyvar, tyvar_seq, last_tyvar, more_tyvars, last_valbind, more_valbinds, rec_valbind, last_funbind, more_funbinds, last_clause, more_clauses, clause, typed_clause, prefix_head, infix_head, paren_head, paren_head_args, last_atpat, more_atpats, last_typbind, more_typbinds, typbind, last_datbind, more_datbinds, datbind, last_conbind, more_conbinds, conbind, conbind_of, last_exbind, more_exbinds, exbind, exbind_of, exbind_is, vid, vid_equals, plain_vid, op_vid, short_vid, long_vid, op_long_vid, tycon, short_tycon, long_tycon, label, label_number, int, char, text, disj_exp, handle, conj_end_exp, orelse_end, prefix_end, andalso_end, raise, if_exp, while_exp, case_exp, fn_exp, conj_disj, orelse, typed_conj, andalso, infix_typed, typed, app_infix, operate, atexp_app, apply, vid_exp, scon_exp, empty_record, record_exp, unit, tuple, sequence, empty_list, list, let_exp, paren, last_item, more_items, last_seq, more_seq, last_row, more_rows, last_rule, more_rules, rule, typed_pat_pat, layered, typed_layered, infix_pat_typed, typed_pat, operand_pat, infix_pat, atpat_operand, con_pat, wild, vid_pat, scon_pat, empty_record_pat, record_pat, unit_pat, tuple_pat, empty_list_pat, list_pat, paren_pat, last_pat, more_pats, last_pat_row, more_pat_rows, pat_row, pun_row, typed_pun_row, pun_row_as, typed_pun_row_as, pun, product_ty, arrow_ty, single_product, product, last_factor, more_factors, var_ty, empty_record_ty, record_ty, con_ty, applied_ty, seq_applied_ty, paren_ty, last_ty, more_tys, last_ty_row, more_ty_rows, ty_row}
-use Rattle.sml_syntax.specs.Fixity.{Fix, looks, directed, goes_on, operates, fits, lefts}
-use Rattle.sml_syntax.specs.Moves.{is_dec, is_ident, is_atexp, is_prefix, at_vids, at_vids_rest, at_digit, at_decs, at_program, at_paren_exp, at_list_exp, at_record_exp, at_label, at_exp, at_ty_vars_rest, at_val_bind}
-use Rattle.sml_syntax.specs.Machine.{Accepts, done, emit, skip, eat, moves, pushed, start}
-use Rattle.sml_fixity.specs.Ends.{Next, ends_ty, ends_pat}
-use Rattle.sml_fixity.proofs.Standing.{name_case, next_weaker, skip_inv, eat_inv}
+use Rattle.sml_syntax.specs.declared.symbol.Push.TheVariants.{P0, P1, P2, P3, P5, P7}
+use Rattle.sml_syntax.specs.declared.symbol.Move.TheVariants.{Skip, Eat}
+use Rattle.sml_syntax.specs.Grammar.{Kind, Phrase, Parses, IsProgram, IsDecs, IsDec, IsDigit, IsVids, IsClause, IsExp, IsConjEnd, IsPrefix, IsRule, IsInfix, IsTyVars, IsTyVarList, IsValBind, IsFunBinds, IsClauses, IsTypBinds, IsTypBind, IsDatBinds, IsDatBind, IsConBinds, IsConBind, IsExBinds, IsExBind, IsDisj, IsConj, IsTyped, IsApp, IsAtexp, IsItems, IsSeq, IsRows, IsMatch, no_program, program_semicolon, program_dec, no_decs, decs_semicolon, more_decs, val_dec, fun_dec, type_dec, datatype_dec, exception_dec, local_dec, infix_dec, infixr_dec, nonfix_dec, no_digit, digit, last_vid, more_vids, no_tyvars, one_tyvar, tyvar_seq, last_tyvar, more_tyvars, last_valbind, more_valbinds, rec_valbind, last_funbind, more_funbinds, last_clause, more_clauses, clause, typed_clause, last_typbind, more_typbinds, typbind, last_datbind, more_datbinds, datbind, last_conbind, more_conbinds, conbind, conbind_of, last_exbind, more_exbinds, exbind, exbind_of, exbind_is, disj_exp, handle, conj_end_exp, orelse_end, prefix_end, andalso_end, raise, if_exp, while_exp, case_exp, fn_exp, conj_disj, orelse, typed_conj, andalso, infix_typed, typed, app_infix, operate, atexp_app, apply, vid_exp, scon_exp, empty_record, record_exp, unit, tuple, sequence, empty_list, list, let_exp, paren, last_item, more_items, last_seq, more_seq, last_row, more_rows, last_rule, more_rules, rule}
+use Rattle.sml_syntax.specs.Fixity.{Fix, looks, goes_on, operates, fits}
+use Rattle.sml_syntax.specs.Moves.{is_dec, at_vids, at_vids_rest, at_digit, at_paren_exp, at_list_exp, at_record_exp, at_label, at_ty_vars_rest, at_val_bind}
+use Rattle.sml_syntax.specs.Machine.{Accepts, done, emit, skip, eat, start}
+use Rattle.sml_fixity.specs.Ends.{Next}
+use Rattle.sml_fixity.proofs.Standing.{name_case, next_weaker, skip_inv}
 use Rattle.sml_fixity.proofs.TypesAccepted.{ends_list, complete_ty}
 use Rattle.sml_fixity.proofs.PatternSteps.{id_first, at_first}
 use Rattle.sml_fixity.proofs.PatternsAccepted.{complete_pat}
-use Rattle.sml_fixity.proofs.HeadsAccepted.{head_end, complete_head}
-use Rattle.sml_fixity.proofs.ExpressionSteps.{typed_end, conj_end, disj_end, or_end, exp_end, no_atexp, exp_closes, conj_typed, disj_conj, or_disj, exp_or, exp_true, typed_ty, typed_no_atexp, list_ends, seq_end, seq_exp, exp_first, word_first, id_atexp, args_go, args_skip, exp_go, or_go, and_go, word_go, ty_skip, and_skip, or_skip, handle_skip, bar_skip, items_skip, rows_skip, seq_skip, ops_skip, typed_closes, ops_eat, ops_end, closes_on, match_go, items_go, seq_go, rows_go}
-use Rattle.sml_fixity.proofs.DecSteps.{dec_end, decs_end, bind_end, con_end, dec_exp, dec_ty, dec_bind, bind_exp, bind_ty, bind_con, con_end_ty, ands, vids_end, bars, con_ofs, ex_rests, decs_skip, decs_dec, is_dec_end, dec_moves, at_next, val_seq, fun_seq, val_none, fun_none, ty_none}
+use Rattle.sml_fixity.proofs.HeadsAccepted.{complete_head}
+use Rattle.sml_fixity.proofs.ExpressionSteps.{typed_end, conj_end, disj_end, exp_end, no_atexp, exp_closes, conj_typed, disj_conj, or_disj, exp_or, exp_true, typed_ty, typed_no_atexp, list_ends, seq_end, seq_exp, exp_first, word_first, id_atexp, args_go, args_skip, exp_go, or_go, and_go, word_go, ty_skip, and_skip, or_skip, handle_skip, bar_skip, items_skip, rows_skip, seq_skip, ops_skip, typed_closes, ops_eat, ops_end, closes_on, match_go, items_go, seq_go, rows_go}
+use Rattle.sml_fixity.proofs.DecSteps.{dec_end, decs_end, bind_end, con_end, dec_exp, dec_bind, bind_exp, bind_ty, bind_con, con_end_ty, ands, vids_end, bars, con_ofs, ex_rests, decs_skip, decs_dec, is_dec_end, dec_moves, at_next, val_seq, fun_seq, val_none, fun_none, ty_none}
 
 not_bracket : (n : ℕ) (l : Look) → not (ends_list l) ≡ true → (at_paren_exp n l ≡ Skip (P2 sy.Exp (sy.ParenRest n))) × (at_list_exp n l ≡ Skip (P3 sy.Items sy.WantCloseBracket (sy.Emit (made.Lead node.List n)))) × (at_record_exp n l ≡ Skip (P3 sy.Rows sy.WantCloseBrace (sy.Emit (made.Lead node.Record n))))
 not_bracket n (look.Other tok.Close) e = cc

@@ -1,31 +1,23 @@
 -- The machine accepts each type, with its nodes.
 use Rattle.std.proofs.Common.{◌≡◌, ℕ, Bool, true, false, List, [], ◌∷◌, cond, length, refl}
 use Rattle.smlc_base.specs.declared.names.Name.{Name}
-use Rattle.sml_tree.specs.declared.status.Status.{Status}
-use Rattle.sml_tree.specs.declared.status.Status.TheVariants as status
-use Rattle.sml_tree.specs.declared.tree_node.TreeNode.{TreeNode}
 use Rattle.sml_tree.specs.declared.tree_node.TreeNode.TheVariants as node
 use Rattle.sml_syntax.specs.declared.forms.Terminal.{Terminal}
 use Rattle.sml_syntax.specs.declared.forms.Terminal.TheVariants as tok
-use Rattle.sml_syntax.specs.declared.forms.Shape.{Shape}
 use Rattle.sml_syntax.specs.declared.forms.Shape.TheVariants as shape
 use Rattle.sml_syntax.specs.declared.forms.Made.{Made}
 use Rattle.sml_syntax.specs.declared.forms.Made.TheVariants as made
-use Rattle.sml_syntax.specs.declared.forms.Root.{Root}
-use Rattle.sml_syntax.specs.declared.forms.Root.TheVariants as root
 use Rattle.sml_syntax.specs.declared.forms.Look.{Look}
 use Rattle.sml_syntax.specs.declared.forms.Look.TheVariants as look
-use Rattle.sml_syntax.specs.declared.forms.InfixVid.{InfixVid}
 use Rattle.sml_syntax.specs.declared.symbol.Symbol.{Symbol}
 use Rattle.sml_syntax.specs.declared.symbol.Symbol.TheVariants as sym
 use Rattle.sml_syntax.specs.declared.symbol.Push.{Push}
-use Rattle.sml_syntax.specs.declared.symbol.Push.TheVariants.{P0, P1, P2, P3, P4, P5, P6, P7}
-use Rattle.sml_syntax.specs.declared.symbol.Move.{Move}
-use Rattle.sml_syntax.specs.declared.symbol.Move.TheVariants.{Refuse, Mixed, Skip, Eat}
+use Rattle.sml_syntax.specs.declared.symbol.Push.TheVariants.{P0, P1, P2, P3, P5}
+use Rattle.sml_syntax.specs.declared.symbol.Move.TheVariants.{Refuse, Skip, Eat}
 use Rattle.sml_syntax.specs.Fixity.{Fix, looks, is_label}
 use Rattle.sml_syntax.specs.Grammar.{Kind, Phrase, IsTyCon, IsLongTyCon, IsLabel, IsTy, IsProduct, IsFactors, IsTyAtom, IsTys, IsTyRows, IsTyRow, tycon, short_tycon, long_tycon, label, label_number, product_ty, arrow_ty, single_product, product, last_factor, more_factors, var_ty, empty_record_ty, record_ty, con_ty, applied_ty, seq_applied_ty, paren_ty, last_ty, more_tys, last_ty_row, more_ty_rows, ty_row}
 use Rattle.sml_syntax.specs.Moves.{at_label, at_ty_con, at_ty_atom, at_ty_post, at_ty_seq_con, at_ty_factors, at_factors_rest, at_ty_arrow, at_tys_rest, at_record_ty, at_ty_rows_rest}
-use Rattle.sml_syntax.specs.Machine.{Accepts, emit, skip, eat, moves}
+use Rattle.sml_syntax.specs.Machine.{Accepts, emit, skip, eat}
 use Rattle.sml_fixity.specs.Ends.{Next, ends_ty}
 use Rattle.sml_fixity.proofs.Standing.{name_case, next_weaker, skip_inv}
 
