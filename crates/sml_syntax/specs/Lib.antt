@@ -1,0 +1,4 @@
+pub mod Fixity
+pub mod Grammar
+pub mod Moves
+pub mod Machine

@@ -1,0 +1,9 @@
+//! Infix status.
+
+/// What a fixity directive gives to an identifier.
+#[derive(Clone, Copy, Debug, PartialEq, Eq)]
+pub enum Status {
+    Nonfix,
+    /// The precedence, and whether it associates to the right.
+    Infix(u8, bool),
+}
