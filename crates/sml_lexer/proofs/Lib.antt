@@ -17,6 +17,7 @@ pub mod PlainLemmas
 pub mod PlainMost
 pub mod PlainScanLemmas
 pub mod QuotedReadLemmas
+pub mod RefusalLemmas
 pub mod ReservedLemmas
 pub mod RunLemmas
 pub mod StageLemmas
