@@ -1,14 +1,14 @@
 -- New variables change nothing of what is bound.
-use Rattle.std.proofs.Common.{◌≡◌, ℕ, zero, suc, ◌+◌, ◌<◌, ◌≤◌, Bool, true, false, List, [], ◌∷◌, ◌++◌, length, Option, Some, None, refl, sym, ap, ◌∙◌, subst, arith, get_or}
+use Rattle.std.proofs.Common.{◌≡◌, ℕ, zero, suc, ◌<◌, ◌≤◌, Bool, true, false, List, [], ◌∷◌, ◌++◌, length, Option, Some, None, refl, sym, ap, ◌∙◌, subst, arith, get_or}
 use Rattle.std.specs.Prelude.{slice_get, ltb}
 use Rattle.std.proofs.lemmas.Bool.Decides.{nat_tests}
 use Rattle.std.proofs.lemmas.Option.{slice_get-get_or}
 use Rattle.sml_types.specs.declared.types.Ty.{Ty}
 use Rattle.sml_types.specs.declared.types.TyVar.{TyVar}
 use Rattle.sml_types.specs.declared.types.TyForm.{TyForm}
-use Rattle.sml_types.specs.declared.types.TyForm.TheVariants.{Var, Fields, Arrow, Named}
+use Rattle.sml_types.specs.declared.types.TyForm.TheVariants.{Var, Arrow}
 use Rattle.sml_types.specs.declared.tables.TypeName.{TypeName}
-use Rattle.sml_types.specs.Tree.{Variable, inst, occurs, admits}
+use Rattle.sml_types.specs.Tree.{inst, occurs, admits}
 use Rattle.sml_types.specs.Forms.{tree, AreForms, AreApplied, IsApplied}
 use Rattle.sml_types.proofs.TreeFacts.{inst_same}
 use Rattle.sml_unify.specs.Solved.{bound_at, Respects, AreBindings, IsSolved, next_number, rounds, meant}
