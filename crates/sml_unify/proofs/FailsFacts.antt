@@ -1,19 +1,15 @@
 -- How the error that is named goes over from the work after a step to the work before.
-use Rattle.std.proofs.Common.{◌≡◌, ℕ, ◌+◌, ◌<◌, ◌≤◌, Bool, true, false, List, [], ◌∷◌, ◌++◌, length, Option, Some, None, refl, sym, ap, ◌∙◌, subst, arith, append_assoc}
-use Rattle.std.specs.Prelude.{slice_get, nat_eq}
-use Rattle.std.proofs.lemmas.Bool.{eqb-true, eq-eqb}
+use Rattle.std.proofs.Common.{◌≡◌, ℕ, List, [], ◌∷◌, ◌++◌, Option, refl, sym, ap, ◌∙◌, arith, append_assoc}
 use Rattle.sml_types.specs.declared.types.Ty.{Ty}
 use Rattle.sml_types.specs.declared.types.TyVar.{TyVar}
 use Rattle.sml_types.specs.declared.types.TyForm.{TyForm}
-use Rattle.sml_types.specs.declared.types.TyForm.TheVariants.{Var}
 use Rattle.sml_types.specs.declared.tables.TypeName.{TypeName}
-use Rattle.sml_types.specs.Tree.{Head, Tree, Variable, App, inst, occurs}
+use Rattle.sml_types.specs.Tree.{Variable, App, inst, occurs}
 use Rattle.sml_types.specs.Forms.{tree, listed, parts_of, head_of}
 use Rattle.sml_unify.specs.declared.pair.Pair.{Pair}
 use Rattle.sml_unify.specs.declared.error.UnifyError.{UnifyError}
-use Rattle.sml_unify.specs.declared.error.UnifyError.TheVariants.{Clash, Cycle, NoEquality, NoMemory}
-use Rattle.sml_unify.specs.Solved.{Substitution, Solves, Respects, IsSolved, IsEqualPair, AreEqual, IsSameType, last_first, meant, under}
-use Rattle.sml_unify.specs.Steps.{IsExtension, IsRefuted}
+use Rattle.sml_unify.specs.Solved.{Substitution, Solves, IsSolved, IsEqualPair, IsSameType, last_first, meant, under}
+use Rattle.sml_unify.specs.Steps.{IsExtension}
 use Rattle.sml_unify.specs.Named.{first_last, IsApp, Fails, on, into, clash, cycle, cycle_right, no_equality, no_equality_right, turned}
 use Rattle.sml_unify.proofs.Meant.{meant_solves}
 use Rattle.sml_unify.proofs.Walks.{at_app}

@@ -1,14 +1,14 @@
 -- New variables change nothing of what is bound.
-use Rattle.std.proofs.Common.{◌≡◌, ℕ, zero, suc, ◌+◌, ◌<◌, ◌≤◌, Bool, true, false, List, [], ◌∷◌, ◌++◌, length, Option, Some, None, refl, sym, ap, ◌∙◌, subst, arith, get_or}
+use Rattle.std.proofs.Common.{◌≡◌, ℕ, zero, suc, ◌<◌, ◌≤◌, Bool, true, false, List, [], ◌∷◌, ◌++◌, length, Option, Some, None, refl, sym, ap, ◌∙◌, subst, arith, get_or}
 use Rattle.std.specs.Prelude.{slice_get, ltb}
 use Rattle.std.proofs.lemmas.Bool.Decides.{nat_tests}
 use Rattle.std.proofs.lemmas.Option.{slice_get-get_or}
 use Rattle.sml_types.specs.declared.types.Ty.{Ty}
 use Rattle.sml_types.specs.declared.types.TyVar.{TyVar}
 use Rattle.sml_types.specs.declared.types.TyForm.{TyForm}
-use Rattle.sml_types.specs.declared.types.TyForm.TheVariants.{Var, Fields, Arrow, Named}
+use Rattle.sml_types.specs.declared.types.TyForm.TheVariants.{Var, Arrow}
 use Rattle.sml_types.specs.declared.tables.TypeName.{TypeName}
-use Rattle.sml_types.specs.Tree.{Variable, inst, occurs, admits}
+use Rattle.sml_types.specs.Tree.{inst, occurs, admits}
 use Rattle.sml_types.specs.Forms.{tree, AreForms, AreApplied, IsApplied}
 use Rattle.sml_types.proofs.TreeFacts.{inst_same}
 use Rattle.sml_unify.specs.Solved.{bound_at, Respects, AreBindings, IsSolved, next_number, rounds, meant}
@@ -113,3 +113,19 @@ module _ (forms after : List TyForm) (bound : List (Option Ty)) (l : IsLonger fo
 pub applied_longer : (forms after : List TyForm) (bound : List (Option Ty)) (names : List TypeName) → IsLonger forms after → AreFresh forms bound after → AreApplied names forms → AreApplied names after
 applied_longer forms after bound names l a h i f e =
     form_cases forms after i f (IsApplied names f) l e (λ o. h i f o) (λ w. let x = a i f w e in subst (λ (g : TyForm). IsApplied names g) (sym x.is) tt)
+
+pub bindings_none : (forms : List TyForm) → AreBindings forms []
+bindings_none forms =
+    record {
+      within = λ x t e. absurd (none x t e);
+      acyclic = ((λ x. 0), (λ x y t e o. absurd (none x t e)));
+    }
+  where
+    none : (x : ℕ) (t : Ty) → bound_at [] x ≡ Some t → ⊥
+    none zero t e = cc
+    none (suc x) t e = cc
+
+-- one variable before another
+pub named_apart : (z w : TyVar) (i : ℕ) (v : TyVar) → (z.num ≡ w.num → ⊥) → slice_get (Var z ∷ []) i ≡ Some (Var v) → v.num ≡ w.num → v ≡ w
+named_apart z w zero v d e n = let same : z ≡ v = cc in absurd (d (ap (λ (u : TyVar). u.num) same ∙ n))
+named_apart z w (suc i) v d e n = cc

@@ -1,6 +1,6 @@
 -- The error that is named is the same before a variable was marked.
-use Rattle.std.proofs.Common.{◌≡◌, ℕ, suc, ◌+◌, ◌<◌, ◌≤◌, Bool, true, false, List, [], ◌∷◌, ◌++◌, length, Option, Some, None, refl, sym, ap, ◌∙◌, subst, arith}
-use Rattle.std.specs.Prelude.{slice_get, nat_eq, ◌||◌}
+use Rattle.std.proofs.Common.{◌≡◌, ℕ, true, false, List, [], ◌∷◌, Option, Some, None, refl, sym, ap, ◌∙◌, arith}
+use Rattle.std.specs.Prelude.{slice_get, ◌||◌}
 use Rattle.std.proofs.lemmas.Bool.{eqb-true, eq-eqb}
 use Rattle.std.proofs.lemmas.Option.{slice_get-get_or}
 use Rattle.sml_types.specs.declared.types.Ty.{Ty}
@@ -8,14 +8,13 @@ use Rattle.sml_types.specs.declared.types.TyVar.{TyVar}
 use Rattle.sml_types.specs.declared.types.TyForm.{TyForm}
 use Rattle.sml_types.specs.declared.types.TyForm.TheVariants.{Var, Fields, Arrow, Named}
 use Rattle.sml_types.specs.declared.tables.TypeName.{TypeName}
-use Rattle.sml_types.specs.Tree.{Head, Tree, Variable, App, NoParts, Part, inst, occurs}
+use Rattle.sml_types.specs.Tree.{Tree, Variable, App, NoParts, Part, inst, occurs}
 use Rattle.sml_types.specs.Forms.{tree, listed, parts_of, head_of}
 use Rattle.sml_unify.specs.declared.pair.Pair.{Pair}
 use Rattle.sml_unify.specs.declared.error.UnifyError.{UnifyError}
-use Rattle.sml_unify.specs.declared.error.UnifyError.TheVariants.{Clash, Cycle, NoEquality, NoMemory}
-use Rattle.sml_unify.specs.Solved.{bound_at, Substitution, Solves, Respects, IsSolved, IsEqualPair, AreEqual, Agrees, next_number, above, meant, under}
+use Rattle.sml_unify.specs.Solved.{Substitution, Solves, Respects, IsSolved, IsEqualPair, Agrees, next_number, meant, under}
 use Rattle.sml_unify.specs.Simplified.{IsBinding}
-use Rattle.sml_unify.specs.Steps.{IsExtension, IsRefuted, IsLonger}
+use Rattle.sml_unify.specs.Steps.{IsExtension, IsRefuted}
 use Rattle.sml_unify.specs.Named.{Fails, on, into, clash, cycle, cycle_right, no_equality, no_equality_right}
 use Rattle.sml_unify.proofs.FailsFacts.{app_no_var}
 use Rattle.sml_unify.proofs.Heads.{free_here}

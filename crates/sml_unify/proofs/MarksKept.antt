@@ -1,6 +1,6 @@
 -- One more binding keeps that marked variables stand for types that admit equality.
-use Rattle.std.proofs.Common.{◌≡◌, ℕ, zero, suc, ◌+◌, ◌<◌, ◌≤◌, Bool, true, false, List, [], ◌∷◌, ◌++◌, length, Option, Some, None, refl, sym, ap, ◌∙◌, subst, arith}
-use Rattle.std.specs.Prelude.{slice_get, nat_eq, ◌&&◌, ◌||◌}
+use Rattle.std.proofs.Common.{◌≡◌, ℕ, zero, suc, ◌<◌, Bool, true, false, List, length, Option, Some, None, refl, sym, ap, ◌∙◌, subst, arith}
+use Rattle.std.specs.Prelude.{slice_get, nat_eq, ◌&&◌}
 use Rattle.std.proofs.lemmas.Bool.{eqb-true, eq-eqb}
 use Rattle.sml_types.specs.declared.types.Ty.{Ty}
 use Rattle.sml_types.specs.declared.types.TyVar.{TyVar}
@@ -9,11 +9,11 @@ use Rattle.sml_types.specs.declared.types.TyForm.TheVariants.{Var}
 use Rattle.sml_types.specs.declared.tables.TypeName.{TypeName}
 use Rattle.sml_types.specs.Tree.{Tree, Variable, App, NoParts, Part, inst, occurs, admits, head_equality}
 use Rattle.sml_types.specs.Forms.{tree}
-use Rattle.sml_types.proofs.TreeFacts.{and_both, by_mono, inst_same, or_left, or_right, or_none}
-use Rattle.sml_unify.specs.Solved.{bound_at, Substitution, Solves, Respects, IsAcyclic, IsSolved, IsBoundTo, rounds, meant, under}
+use Rattle.sml_types.proofs.TreeFacts.{and_both, by_mono, or_left, or_right, or_none}
+use Rattle.sml_unify.specs.Solved.{bound_at, Substitution, Solves, Respects, IsSolved, IsBoundTo, rounds, meant, under}
 use Rattle.sml_unify.proofs.Meant.{below, below_less, below_all, bound_within, bound_cases, rounds_zero, rounds_free, rounds_bound, meant_solves, meant_free}
 use Rattle.sml_unify.proofs.Bindings.{bound_before}
-use Rattle.sml_unify.proofs.Known.{AllVars, IsKnown, vars_mono, vars_inst, meant_known, under_known, meant_through, under_through}
+use Rattle.sml_unify.proofs.Known.{AllVars, IsKnown, vars_inst, meant_known, meant_through, under_through}
 
 vars_of : (P : TyVar → Type 0) (t : Tree) → ((v : TyVar) → occurs v.num t ≡ true → P v) → AllVars P t
 vars_of P (Variable v) h = h v (eq-eqb v.num v.num refl)

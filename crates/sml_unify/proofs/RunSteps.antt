@@ -1,7 +1,6 @@
 -- The last task is worked off.
-use Rattle.std.proofs.Common.{◌≡◌, ℕ, ◌<◌, List, [], ◌∷◌, ◌++◌, length, Option, Some, None, refl, sym, ap, ◌∙◌, subst, get_or}
+use Rattle.std.proofs.Common.{◌≡◌, ℕ, ◌<◌, List, [], ◌∷◌, ◌++◌, Option, Some, None, sym, ap, ◌∙◌, subst, get_or}
 use Rattle.std.specs.Prelude.{slice_get, map, Ok, Err}
-use Rattle.std.specs.List.{AllByRecursion}
 use Rattle.std.proofs.lemmas.Option.{slice_get-get_or}
 use Rattle.sml_types.specs.declared.types.Ty.{Ty}
 use Rattle.sml_types.specs.declared.types.TyVar.{TyVar}
@@ -13,11 +12,10 @@ use Rattle.sml_unify.specs.declared.task.Task.{Task}
 use Rattle.sml_unify.specs.declared.task.Task.TheVariants.{Unify, Link}
 use Rattle.sml_unify.specs.declared.error.UnifyError.{UnifyError}
 use Rattle.sml_unify.specs.declared.error.UnifyError.TheVariants.{Clash, Cycle, NoEquality, NoMemory}
-use Rattle.sml_unify.specs.Solved.{Substitution, Solves, IsSolved, IsSameType, IsEqualPair, ArePairs, IsPair, under, last_first}
-use Rattle.sml_unify.specs.Named.{IsSame}
+use Rattle.sml_unify.specs.Solved.{Substitution, Solves, IsSolved, IsSameType, IsEqualPair, ArePairs, IsPair, under}
 use Rattle.sml_unify.specs.Simplified.{IsBinding, IsSimplified}
 use Rattle.sml_unify.specs.Links.{IsLinked, Leads, AreLinks}
-use Rattle.sml_unify.specs.Tasks.{pairs_of, parts_tasks, IsFacing, AreApps}
+use Rattle.sml_unify.specs.Tasks.{pairs_of, IsFacing, AreApps}
 use Rattle.sml_unify.specs.Runs.{IsLike, AreForms, IsOpened}
 use Rattle.sml_unify.proofs.Walks.{all_left, all_right}
 use Rattle.sml_unify.proofs.Pairs as pairs

@@ -8,7 +8,7 @@ use Rattle.sml_types.specs.declared.types.TyVar.{TyVar}
 use Rattle.sml_types.specs.declared.types.TyForm.{TyForm}
 use Rattle.sml_types.specs.declared.types.TyForm.TheVariants.{Var}
 use Rattle.sml_types.specs.Tree.{Tree, inst, size}
-use Rattle.sml_types.specs.Forms.{tree, listed, parts_of, head_of}
+use Rattle.sml_types.specs.Forms.{tree, listed, parts_of}
 use Rattle.sml_types.proofs.TreeFacts.{either, or_left, or_right}
 use Rattle.sml_unify.specs.declared.pair.Pair.{Pair}
 use Rattle.sml_unify.specs.declared.task.Task.{Task}

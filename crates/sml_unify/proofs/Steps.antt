@@ -1,14 +1,13 @@
 -- A pair that is taken off the work.
-use Rattle.std.proofs.Common.{◌≡◌, ℕ, ◌+◌, ◌<◌, List, [], ◌∷◌, ◌++◌, length, Option, Some, refl, sym, ap, ◌∙◌, subst, arith}
+use Rattle.std.proofs.Common.{◌≡◌, ℕ, ◌<◌, List, [], ◌∷◌, ◌++◌, length, Option, Some, refl, sym, ap, ◌∙◌, subst}
 use Rattle.std.specs.Prelude.{slice_get}
 use Rattle.sml_types.specs.declared.types.Ty.{Ty}
 use Rattle.sml_types.specs.declared.types.TyVar.{TyVar}
 use Rattle.sml_types.specs.declared.types.TyForm.{TyForm}
 use Rattle.sml_types.specs.declared.types.TyForm.TheVariants.{Var}
-use Rattle.sml_types.specs.Tree.{Variable, inst, size}
-use Rattle.sml_types.specs.Forms.{tree, listed, parts_of, head_of}
+use Rattle.sml_types.specs.Forms.{parts_of, head_of}
 use Rattle.sml_unify.specs.declared.pair.Pair.{Pair}
-use Rattle.sml_unify.specs.Solved.{Substitution, Solves, IsSolved, IsFree, IsSameType, under, meant, AreEqual, IsEqualPair, ArePairs, IsPair, last_first}
+use Rattle.sml_unify.specs.Solved.{Substitution, Solves, IsSolved, IsFree, IsSameType, AreEqual, IsEqualPair, ArePairs, IsPair, last_first}
 use Rattle.sml_unify.specs.Named as named
 use Rattle.sml_unify.specs.Named.{IsSame, IsApp, Fails, turned}
 use Rattle.sml_unify.specs.declared.error.UnifyError.{UnifyError}
@@ -17,11 +16,10 @@ use Rattle.sml_types.specs.declared.tables.TypeName.{TypeName}
 use Rattle.sml_unify.proofs.FailsFacts.{turned_last, turned_none, turned_pushed, replaced, swapped, stay}
 use Rattle.sml_unify.specs.Simplified.{IsBinding}
 use Rattle.sml_unify.specs.Tasks.{IsFacing, straight, across}
-use Rattle.sml_unify.proofs.Meant.{meant_solves}
-use Rattle.sml_unify.proofs.Heads.{tree_var, free_here}
+use Rattle.sml_unify.proofs.Heads.{free_here}
 use Rattle.sml_unify.proofs.Walks.{all_append, all_left, all_right, at_app, at_var}
 use Rattle.sml_unify.proofs.Walks as walks
-use Rattle.sml_unify.proofs.Pairs.{left_size, left_size-append, left_size-parts, parts_forth, parts_back, parts_within, same_last, app_forth, app_back, apps_differ}
+use Rattle.sml_unify.proofs.Pairs.{parts_forth, parts_back, parts_within, same_last, app_forth, app_back, apps_differ}
 
 -- the pair p was the last of the work
 pub record IsTaken (forms : List TyForm) (bound : List (Option Ty)) (before work rest : List Pair) (p : Pair) : Type 0 where

@@ -1,5 +1,5 @@
 -- How much of the forms a walk has not come to: a measure that a visit makes smaller by one more than the parts of its form.
-use Rattle.std.proofs.Common.{◌≡◌, ℕ, zero, suc, ◌+◌, ◌<◌, ◌≤◌, Bool, true, false, List, [], ◌∷◌, length, Some, refl, sym, ap, ◌∙◌, arith}
+use Rattle.std.proofs.Common.{◌≡◌, ℕ, zero, suc, ◌+◌, ◌≤◌, Bool, true, false, List, [], ◌∷◌, length, Some, refl, ap, arith}
 use Rattle.std.specs.Prelude.{slice_get, cond}
 use Rattle.sml_types.specs.declared.types.TyForm.{TyForm}
 use Rattle.sml_types.specs.Forms.{parts_of}

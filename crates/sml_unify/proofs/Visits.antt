@@ -1,6 +1,6 @@
 -- A walk that comes to each form once: what is seen is settled by what is seen and what waits.
 use Rattle.std.proofs.Common.{◌≡◌, ℕ, zero, suc, ◌+◌, ◌<◌, ◌≤◌, Bool, true, false, List, [], ◌∷◌, ◌++◌, length, Option, Some, refl, sym, ap, ◌∙◌, subst, arith, append_assoc, length-append, not, if◌then◌else◌}
-use Rattle.std.specs.Prelude.{slice_get, nat_eq, ◌||◌}
+use Rattle.std.specs.Prelude.{slice_get, nat_eq}
 use Rattle.std.specs.List.{AllByRecursion}
 use Rattle.std.proofs.lemmas.Bool.{eqb-true, eq-eqb}
 use Rattle.sml_types.specs.declared.types.Ty.{Ty}
@@ -15,7 +15,7 @@ use Rattle.indexmap.specs.IndexSet.{insert_key}
 use Rattle.sml_unify.specs.Steps.{logged}
 use Rattle.sml_unify.specs.Visit.{IsVisit}
 use Rattle.sml_unify.proofs.Unvisited.{unvisited, unvisited_falls}
-use Rattle.sml_unify.proofs.Walks.{all_append, at_app}
+use Rattle.sml_unify.proofs.Walks.{at_app}
 
 pub logged_left : (xs ys : List ℕ) (c : ℕ) → logged xs c ≡ true → logged (xs ++ ys) c ≡ true
 logged_left [] ys c h = cc

@@ -1,5 +1,5 @@
 -- Forms that stand for others.
-use Rattle.std.specs.Prelude.{◌≡◌, ℕ, ◌<◌, Option, Some, None, List, length, slice_get}
+use Rattle.std.specs.Prelude.{◌≡◌, ℕ, ◌<◌, Option, Some, List, length, slice_get}
 use Rattle.sml_types.specs.declared.types.Ty.{Ty}
 use Rattle.sml_types.specs.declared.types.TyVar.{TyVar}
 use Rattle.sml_types.specs.declared.types.TyForm.{TyForm}

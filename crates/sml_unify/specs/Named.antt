@@ -1,11 +1,11 @@
 -- The error that is named: that of the first pair that cannot be made equal.
-use Rattle.std.specs.Prelude.{◌≡◌, ℕ, Bool, true, false, Option, Some, None, List, [], ◌∷◌, ◌++◌, length, slice_get}
+use Rattle.std.specs.Prelude.{◌≡◌, ℕ, true, false, Option, Some, List, [], ◌∷◌, ◌++◌, length, slice_get}
 use Rattle.sml_types.specs.declared.types.Ty.{Ty}
 use Rattle.sml_types.specs.declared.types.TyVar.{TyVar}
 use Rattle.sml_types.specs.declared.types.TyForm.{TyForm}
 use Rattle.sml_types.specs.declared.types.TyForm.TheVariants.{Var}
 use Rattle.sml_types.specs.declared.tables.TypeName.{TypeName}
-use Rattle.sml_types.specs.Tree.{Tree, Variable, occurs}
+use Rattle.sml_types.specs.Tree.{Variable, occurs}
 use Rattle.sml_types.specs.Forms.{parts_of, head_of}
 use Rattle.sml_unify.specs.declared.pair.Pair.{Pair}
 use Rattle.sml_unify.specs.declared.error.UnifyError.{UnifyError}

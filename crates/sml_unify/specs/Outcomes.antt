@@ -1,14 +1,12 @@
 -- What one step answers, and many.
-use Rattle.std.specs.Prelude.{◌≡◌, ℕ, ◌<◌, ◌≤◌, Bool, true, false, Option, Some, None, Result, Ok, Err, List, [], ◌∷◌, length, slice_get, nat_eq}
-use Rattle.std.specs.List.{list_any}
+use Rattle.std.specs.Prelude.{◌<◌, Bool, true, false, Option, Result, Ok, Err, List, [], ◌∷◌}
 use Rattle.sml_types.specs.declared.types.Ty.{Ty}
 use Rattle.sml_types.specs.declared.types.TyForm.{TyForm}
 use Rattle.sml_types.specs.declared.tables.TypeName.{TypeName}
-use Rattle.sml_types.specs.Forms.{tree}
 use Rattle.sml_unify.specs.declared.pair.Pair.{Pair}
 use Rattle.sml_unify.specs.declared.error.UnifyError.{UnifyError}
 use Rattle.sml_unify.specs.declared.error.UnifyError.TheVariants.{Clash, Cycle, NoEquality, NoMemory}
-use Rattle.sml_unify.specs.Solved.{Substitution, Solves, Respects, IsSolved, IsEqualPair, AreEqual, Agrees, next_number, weight, meant}
+use Rattle.sml_unify.specs.Solved.{Substitution, Solves, IsEqualPair, AreEqual, weight}
 use Rattle.sml_unify.specs.Steps.{IsExtension, IsRefuted}
 use Rattle.sml_unify.specs.Named.{Fails, turned}
 

@@ -1,5 +1,5 @@
 -- What it means to take two forms apart.
-use Rattle.std.specs.Prelude.{◌≡◌, ℕ, Some, Result, Ok, Err, List, [], ◌∷◌, ◌++◌, length, slice_get}
+use Rattle.std.specs.Prelude.{◌≡◌, Some, Result, Ok, Err, List, ◌∷◌, ◌++◌, length, slice_get}
 use Rattle.sml_types.specs.declared.types.TyForm.{TyForm}
 use Rattle.sml_types.specs.Forms.{parts_of, head_of}
 use Rattle.sml_unify.specs.declared.pair.Pair.{Pair}

@@ -1,5 +1,5 @@
 -- What one binding does, and many.
-use Rattle.std.specs.Prelude.{◌≡◌, ℕ, ◌<◌, ◌≤◌, Bool, true, false, Option, Some, None, Result, Ok, Err, List, [], ◌∷◌, length, slice_get, nat_eq}
+use Rattle.std.specs.Prelude.{◌≡◌, ℕ, ◌<◌, ◌≤◌, Bool, true, false, Option, Some, None, List, length, slice_get, nat_eq}
 use Rattle.std.specs.List.{list_any}
 use Rattle.sml_types.specs.declared.types.Ty.{Ty}
 use Rattle.sml_types.specs.declared.types.TyForm.{TyForm}
@@ -8,9 +8,7 @@ use Rattle.sml_types.specs.declared.types.TyVar.{TyVar}
 use Rattle.sml_types.specs.declared.tables.TypeName.{TypeName}
 use Rattle.sml_types.specs.Forms.{tree}
 use Rattle.sml_unify.specs.declared.pair.Pair.{Pair}
-use Rattle.sml_unify.specs.declared.error.UnifyError.{UnifyError}
-use Rattle.sml_unify.specs.declared.error.UnifyError.TheVariants.{Clash, Cycle, NoEquality, NoMemory}
-use Rattle.sml_unify.specs.Solved.{Substitution, Solves, Respects, IsSolved, IsEqualPair, AreEqual, Agrees, next_number, weight, meant}
+use Rattle.sml_unify.specs.Solved.{Substitution, Solves, Respects, IsSolved, AreEqual, Agrees, next_number, meant}
 
 -- forms that go on others
 pub record IsLonger (forms after : List TyForm) : Type 0 where

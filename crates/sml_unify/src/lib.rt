@@ -19,3 +19,6 @@ mod visit;
 
 pub use error::UnifyError;
 pub use subst::{Subst, unify};
+
+#[cfg(test)]
+mod tests;

@@ -3,6 +3,7 @@
 ghost use Rattle.std.specs.Prelude.{◌≡◌, ℕ, ◌<◌, [], ◌∷◌, length, OnErr, IfOk, List, Option};
 ghost use Rattle.sml_unify.specs.Solved.{AreBindings, Solves, Respects, meant};
 ghost use Rattle.sml_types.specs.Forms.{AreApplied};
+ghost use Rattle.sml_types.specs.declared.types.TyForm.{TyForm};
 ghost use Rattle.sml_unify.specs.Steps.{IsLonger, AreFresh};
 ghost use Rattle.sml_unify.specs.Outcomes.{IsUnified};
 
@@ -23,7 +24,8 @@ pub struct Subst {
 impl Subst {
     /// Binds none.
     pub fn new(alloc: Global) -> Subst
-        ensures { result.bound ≡ [] }
+        ensures none { result.bound ≡ [] }
+        ensures bindings { (forms : List TyForm) → AreBindings forms result.bound }
     {
         Subst {
             bound: Row::new(alloc),

@@ -1,7 +1,7 @@
-use Rattle.std.proofs.Common.{refl, sym, ap, ◌∙◌, nat_eq}
+use Rattle.std.proofs.Common.{refl, sym, ◌∙◌, nat_eq}
 use Rattle.indexmap.specs.IndexMap.{get}
 use Rattle.sml_unify.specs.Links.{stay, onward}
-use Rattle.sml_unify.proofs.LinkFacts.{low_link_first, low_link_step, low_link_last}
+use Rattle.sml_unify.proofs.LinkFacts.{low_link_first, low_link_step}
 use Rattle.sml_unify.proofs.link.find.Goals as goal
 
 pub chain-init : goal.chain-init

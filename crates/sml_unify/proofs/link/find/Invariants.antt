@@ -1,4 +1,4 @@
-use Rattle.std.proofs.Common.{ℕ, nat_eq}
+use Rattle.std.proofs.Common.{nat_eq}
 use Rattle.indexmap.specs.IndexMap.{get}
 use Rattle.sml_unify.specs.Links.{Leads}
 use Rattle.sml_unify.proofs.LinkFacts.{IsLowLink}

@@ -1,8 +1,7 @@
-use Rattle.std.proofs.Common.{◌≡◌, Some, [], ◌∷◌, ◌++◌, length, sym, ap, ◌∙◌, append_assoc}
+use Rattle.std.proofs.Common.{◌≡◌, Some, [], ◌∷◌, ◌++◌, sym, ap, ◌∙◌, append_assoc}
 use Rattle.std.proofs.lemmas.Option.{slice_get-get_or}
 use Rattle.sml_types.specs.declared.types.TyForm.{TyForm}
 use Rattle.sml_types.specs.Forms.{parts_of}
-use Rattle.sml_unify.specs.declared.task.Task.{Task}
 use Rattle.sml_unify.specs.declared.task.Task.TheVariants.{Link}
 use Rattle.sml_unify.specs.Tasks.{parts_tasks}
 use Rattle.sml_unify.specs.Runs.{IsLike}

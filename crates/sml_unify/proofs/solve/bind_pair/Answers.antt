@@ -12,7 +12,7 @@ use Rattle.sml_unify.specs.Outcomes.{IsStep}
 use Rattle.sml_unify.proofs.Extends.{new_longer}
 use Rattle.sml_unify.proofs.PairSteps.{cycle_named, marking_error, step_bound, step_marked}
 use Rattle.sml_unify.proofs.solve.bind_pair.Goals.{then-var+in-Ok-None, else-var}
-use Rattle.sml_unify.proofs.Fresh.{fresh_one, fresh_none}
+use Rattle.sml_unify.proofs.Fresh.{fresh_one}
 use Rattle.sml_unify.proofs.solve.bind_pair.Goals as goal
 
 pub returns-then-branch-clause-step : goal.returns-then-branch-clause-step

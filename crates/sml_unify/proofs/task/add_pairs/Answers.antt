@@ -1,4 +1,4 @@
-use Rattle.std.proofs.Common.{◌≡◌, Some, [], ◌∷◌, ◌++◌, take, sym, ap, ◌∙◌, append_assoc}
+use Rattle.std.proofs.Common.{Some, [], ◌∷◌, ◌++◌, take, sym, ap, ◌∙◌, append_assoc}
 use Rattle.std.proofs.lemmas.Option.{slice_get-get_or}
 use Rattle.sml_unify.specs.Tasks.{pairs_of}
 use Rattle.sml_unify.specs.declared.task.Task.TheVariants.{Link}

@@ -1,8 +1,3 @@
-use Rattle.std.proofs.Common.{◌≡◌, Bool, true, false, not, ℕ, List, refl, sym, ap, ◌∙◌}
-use Rattle.std.specs.Prelude.{nat_eq}
-use Rattle.indexmap.specs.IndexSet.{insert_key}
-use Rattle.sml_unify.specs.Steps.{logged}
-use Rattle.sml_unify.specs.Visit.{IsVisit}
 use Rattle.sml_unify.proofs.Visits.{visited}
 use Rattle.sml_unify.proofs.visit.visit.Goals as goal
 

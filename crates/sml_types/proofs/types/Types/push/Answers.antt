@@ -1,5 +1,5 @@
 use Rattle.std.proofs.Common.{[], ◌∷◌, ◌++◌, length, ap, ◌∙◌}
-use Rattle.sml_types.specs.Forms.{form_tree, tree}
+use Rattle.sml_types.specs.Forms.{tree}
 use Rattle.sml_types.proofs.FormFacts.{tree_new, tree_more}
 use Rattle.sml_types.proofs.types.Types.push.Goals as goal
 
