@@ -8,10 +8,7 @@ use std::test::Fail;
 #[test]
 fn one_of_each(rt: HostRuntime) -> Result<(), Fail> {
     let mut types = Types::new(rt.alloc());
-    let a = types.var(TyVar {
-        num: 0,
-        eq: false,
-    })?;
+    let a = types.var(TyVar { num: 0, eq: false })?;
     assert_eq!(rt; a, Ty(0));
     let function = types.arrow(a, a)?;
     assert_eq!(rt; function, Ty(1));

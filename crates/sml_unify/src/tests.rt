@@ -71,10 +71,7 @@ fn two_heads_clash(rt: HostRuntime) -> Result<(), Fail> {
 fn a_variable_in_its_list_is_a_cycle(rt: HostRuntime) -> Result<(), Fail> {
     let tables = tables(rt.alloc())?;
     let mut types = Types::new(rt.alloc());
-    let a = types.var(TyVar {
-        num: 0,
-        eq: false,
-    })?;
+    let a = types.var(TyVar { num: 0, eq: false })?;
     let mut args = Row::new(rt.alloc());
     args.push(a)?;
     let list = types.named(3, args)?;
@@ -88,10 +85,7 @@ fn a_variable_in_its_list_is_a_cycle(rt: HostRuntime) -> Result<(), Fail> {
 fn functions_admit_no_equality(rt: HostRuntime) -> Result<(), Fail> {
     let tables = tables(rt.alloc())?;
     let mut types = Types::new(rt.alloc());
-    let a = types.var(TyVar {
-        num: 0,
-        eq: true,
-    })?;
+    let a = types.var(TyVar { num: 0, eq: true })?;
     let int = types.named(0, Row::new(rt.alloc()))?;
     let function = types.arrow(int, int)?;
     let mut subst = Subst::new(rt.alloc());
@@ -104,14 +98,8 @@ fn functions_admit_no_equality(rt: HostRuntime) -> Result<(), Fail> {
 fn pairs_are_made_equal(rt: HostRuntime) -> Result<(), Fail> {
     let tables = tables(rt.alloc())?;
     let mut types = Types::new(rt.alloc());
-    let a = types.var(TyVar {
-        num: 0,
-        eq: false,
-    })?;
-    let b = types.var(TyVar {
-        num: 1,
-        eq: false,
-    })?;
+    let a = types.var(TyVar { num: 0, eq: false })?;
+    let b = types.var(TyVar { num: 1, eq: false })?;
     let int = types.named(0, Row::new(rt.alloc()))?;
     let bool = types.named(2, Row::new(rt.alloc()))?;
     let left = pair(rt.alloc(), &mut types, a, int)?;
@@ -128,10 +116,7 @@ fn pairs_are_made_equal(rt: HostRuntime) -> Result<(), Fail> {
 fn shared_types_are_walked_once(rt: HostRuntime) -> Result<(), Fail> {
     let tables = tables(rt.alloc())?;
     let mut types = Types::new(rt.alloc());
-    let a = types.var(TyVar {
-        num: 0,
-        eq: true,
-    })?;
+    let a = types.var(TyVar { num: 0, eq: true })?;
     let int = types.named(0, Row::new(rt.alloc()))?;
     let left = tower(&mut types, a, 40)?;
     let right = tower(&mut types, int, 40)?;

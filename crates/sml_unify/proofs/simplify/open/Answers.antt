@@ -17,8 +17,8 @@ returns c a b h =
     let d = c.same_head.ensures.0 c.if-not-same_head.false in (
       subst (λ (f : TyForm). IsLike f b) x (subst (λ (g : TyForm). IsLike c.index-forms-pair.result g) y d),
       c.in_ok-add_parts.ensures
-      ∙ ap (λ ts. ts ++ parts_tasks c.deref.result.now c.deref-2.result.now) c.in_ok-push.ensures.items
-      ∙ append_assoc c.args.tasks.now.items (Link c.args.pair ∷ []) (parts_tasks c.deref.result.now c.deref-2.result.now)
-      ∙ ap (λ xs. c.args.tasks.now.items ++ Link c.args.pair ∷ parts_tasks xs c.deref-2.result.now) (c.deref.ensures.value ∙ c.in_ok-xs.ensures ∙ ap parts_of x)
-      ∙ ap (λ ys. c.args.tasks.now.items ++ Link c.args.pair ∷ parts_tasks (parts_of a) ys) (c.deref-2.ensures.value ∙ c.in_ok-ys.ensures ∙ ap parts_of y),
+          ∙ ap (λ ts. ts ++ parts_tasks c.deref.result.now c.deref-2.result.now) c.in_ok-push.ensures.items
+          ∙ append_assoc c.args.tasks.now.items (Link c.args.pair ∷ []) (parts_tasks c.deref.result.now c.deref-2.result.now)
+          ∙ ap (λ xs. c.args.tasks.now.items ++ Link c.args.pair ∷ parts_tasks xs c.deref-2.result.now) (c.deref.ensures.value ∙ c.in_ok-xs.ensures ∙ ap parts_of x)
+          ∙ ap (λ ys. c.args.tasks.now.items ++ Link c.args.pair ∷ parts_tasks (parts_of a) ys) (c.deref-2.ensures.value ∙ c.in_ok-ys.ensures ∙ ap parts_of y),
     )
