@@ -6,6 +6,7 @@ use Rattle.elf_static.specs.Layout.{round_up}
 use Rattle.elf_static.specs.Writing.{written, headers, ident, fields, file_fields, program_table, program_bytes, segment_bytes, table_bytes, section_table, section_bytes, padded, names, sections_at, entries_at, plan_at, names_at}
 use Rattle.elf_static.proofs.HeadersRead.{length-program, length-section}
 use Rattle.elf_static.proofs.Lengths.{length-padded, length-table_bytes}
+use Rattle.elf_static.proofs.Padding.{above4096}
 use Rattle.smlc_top.specs.Code.{bytes_of, whole_code, image_of, IsStraight}
 use Rattle.smlc_top.proofs.Ends.{length-code, pieces-total}
 
@@ -46,7 +47,7 @@ module _ (lengths text : List ℕ) (s : IsStraight lengths text) where
       let few : length lengths ≤ 1048576 = omega (arith, pieces-total lengths s.positive, s.sums, s.bounded) in
       let size = length-code lengths in
       let bound : length text ≤ 1048576 = s.bounded in
-      let a : length (padded 4096 (headers i)) ≡ 4096 = length-padded (headers i) ∙ ap (round_up 4096) headers_length in
+      let a : length (padded 4096 (headers i)) ≡ 4096 = length-padded 4096 (headers i) (above4096 (length (headers i))).0 ∙ ap (round_up 4096) headers_length in
       let b1 = length-append (padded 4096 code) (padded 4096 text ++ (padded 4096 [] ++ [])) in
       let b2 = length-append (padded 4096 text) (padded 4096 [] ++ []) in
       let b3 : length (padded 4096 [] ++ []) ≡ 0 = refl in
@@ -58,4 +59,4 @@ module _ (lengths text : List ℕ) (s : IsStraight lengths text) where
       let T = table_bytes i.entries in
       let P = padded 8 i.plan in
       let N = padded 8 names in
-      omega (arith, length-append (A ++ B ++ T ++ P ++ N) (section_table i), length-append (A ++ B ++ T ++ P) N, length-append (A ++ B ++ T) P, length-append (A ++ B) T, length-append A B, length-padded code, length-padded text, sections_length)
+      omega (arith, length-append (A ++ B ++ T ++ P ++ N) (section_table i), length-append (A ++ B ++ T ++ P) N, length-append (A ++ B ++ T) P, length-append (A ++ B) T, length-append A B, length-padded 4096 code (above4096 (length code)).0, length-padded 4096 text (above4096 (length text)).0, sections_length)
