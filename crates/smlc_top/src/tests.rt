@@ -206,13 +206,6 @@ fn words_that_are_no_command(rt: HostRuntime) -> Result<(), Fail> {
 
 const HELLO: &[u8] = b"val _ = print \"hello\\n\"\n";
 
-/// Where an ELF file is changed, what it gets there, and what running it says.
-const CHANGES: &[(u32, &[u8], &str, u8)] = &[
-    (136, b"\0\0\x01\0", "not elf Overlap at 136\n", 8),
-    (4096, b"\0\0\0\0", "trap 0000000000010000 00000000\n", 9),
-    (24, b"\0\0\x01\0", "exit 0\n", 0),
-];
-
 // What `exec` of these bytes answers and says.
 fn executed(alloc: Global, bytes: &[u8], err: &mut MemSink) -> Result<u8, Fail> {
     let mut store = MemStore::new(alloc, Vec::new(alloc));
@@ -238,16 +231,10 @@ fn what_is_compiled_is_run(rt: HostRuntime) -> Result<(), Fail> {
     assert_eq!(rt; status, 0);
     assert_eq!(rt; out.bytes(), b"".as_slice());
     let mut bytes = store.load(alloc, "a")?;
-    for (at, new, line, status) in CHANGES {
-        let mut changed = bytes.clone()?;
-        let at = *at as usize;
-        assert!(rt; at + new.len() <= changed.len());
-        changed[at..at + new.len()].copy_from_slice(new);
-        let mut said = MemSink::new(alloc, Vec::new(alloc));
-        said.reserve(100)?;
-        assert_eq!(rt; executed(alloc, &changed, &mut said)?, *status);
-        assert_eq!(rt; said.bytes(), line.as_bytes());
-    }
+    let mut said = MemSink::new(alloc, Vec::new(alloc));
+    said.reserve(100)?;
+    assert_eq!(rt; executed(alloc, &bytes, &mut said)?, 0);
+    assert_eq!(rt; said.bytes(), b"exit 0\n".as_slice());
     bytes.truncate(100);
     let mut said = MemSink::new(alloc, Vec::new(alloc));
     said.reserve(100)?;
