@@ -17,8 +17,8 @@ use Rattle.sml_syntax.specs.declared.symbol.Move.TheVariants.{Skip, Eat}
 use Rattle.sml_syntax.specs.Fixity.{Fix, looks, lefts}
 use Rattle.sml_syntax.specs.Moves.{is_ident, is_atpat, at_long_vid, at_pat_name, at_pat_name_ty, at_pat_ty_rest, at_pat_ops, at_atpat, at_pun_row, at_pun_row_ty}
 use Rattle.sml_syntax.specs.Machine.{Accepts, emit, skip, eat}
-use Rattle.sml_fixity.specs.Ends.{Next, ends_ty, ends_pat}
-use Rattle.sml_fixity.proofs.TypesAccepted.{ends_list}
+use Rattle.syntax_laws.specs.Ends.{Next, ends_ty, ends_pat}
+use Rattle.syntax_laws.proofs.TypesAccepted.{ends_list}
 
 -- what ends a typed pattern
 abbrev pub ends_typed : Look → Bool

@@ -20,10 +20,10 @@ use Rattle.sml_syntax.specs.Fixity.{Fix, looks, alike, lefts, rights, fits}
 use Rattle.sml_syntax.specs.Grammar.{Kind, Phrase, IsVid, IsOpVid, IsLongVid, IsLabel, IsScon, IsPat, IsTypedPat, IsInfixPat, IsOperand, IsAtpat, IsPats, IsPatRows, IsPatRow, IsPun, vid, vid_equals, plain_vid, op_vid, short_vid, long_vid, op_long_vid, label, label_number, int, char, text, typed_pat_pat, layered, typed_layered, infix_pat_typed, typed_pat, operand_pat, infix_pat, atpat_operand, con_pat, wild, vid_pat, scon_pat, empty_record_pat, record_pat, unit_pat, tuple_pat, empty_list_pat, list_pat, paren_pat, last_pat, more_pats, last_pat_row, more_pat_rows, pat_row, pun_row, typed_pun_row, pun_row_as, typed_pun_row_as, pun}
 use Rattle.sml_syntax.specs.Moves.{at_any_vid, at_any_long, at_pat_op, at_pat_ops, at_pat_paren, at_pat_list, at_pat_record, at_pats_rest, at_pat_row, at_pat_rows_rest}
 use Rattle.sml_syntax.specs.Machine.{Accepts, emit, skip, eat, moves, pushed}
-use Rattle.sml_fixity.specs.Ends.{Next, ends_ty, ends_pat}
-use Rattle.sml_fixity.proofs.Standing.{name_case, next_weaker, skip_inv}
-use Rattle.sml_fixity.proofs.TypesAccepted.{ends_list, complete_ty}
-use Rattle.sml_fixity.proofs.PatternSteps.{ends_typed, ends_row, no_atpat, closes, pat_typed, row_pat, list_row, list_pat_end, typed_no_atpat, typed_closes, typed_ty, row_rest, at_first, id_first, long_go, name_go, long_skip, arg_skip, arg_go, id_atpat, id_operand, pat_skip, ops_skip, name_skip, name_ty_skip}
+use Rattle.syntax_laws.specs.Ends.{Next, ends_ty, ends_pat}
+use Rattle.syntax_laws.proofs.Standing.{name_case, next_weaker, skip_inv}
+use Rattle.syntax_laws.proofs.TypesAccepted.{ends_list, complete_ty}
+use Rattle.syntax_laws.proofs.PatternSteps.{ends_typed, ends_row, no_atpat, closes, pat_typed, row_pat, list_row, list_pat_end, typed_no_atpat, typed_closes, typed_ty, row_rest, at_first, id_first, long_go, name_go, long_skip, arg_skip, arg_go, id_atpat, id_operand, pat_skip, ops_skip, name_skip, name_ty_skip}
 
 not_bracket : (n : ℕ) (l : Look) → not (ends_list l) ≡ true → (at_pat_paren n l ≡ Skip (P2 sy.Pat (sy.PatParenRest n))) × (at_pat_list n l ≡ Skip (P3 sy.Pats sy.WantCloseBracket (sy.Emit (made.Lead node.PatList n)))) × (at_pat_record n l ≡ Skip (P3 sy.PatRows sy.WantCloseBrace (sy.Emit (made.Lead node.PatRecord n))))
 not_bracket n (look.Other tok.Close) e = cc

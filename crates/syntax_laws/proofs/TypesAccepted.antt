@@ -18,8 +18,8 @@ use Rattle.sml_syntax.specs.Fixity.{Fix, looks, is_label}
 use Rattle.sml_syntax.specs.Grammar.{Kind, Phrase, IsTyCon, IsLongTyCon, IsLabel, IsTy, IsProduct, IsFactors, IsTyAtom, IsTys, IsTyRows, IsTyRow, tycon, short_tycon, long_tycon, label, label_number, product_ty, arrow_ty, single_product, product, last_factor, more_factors, var_ty, empty_record_ty, record_ty, con_ty, applied_ty, seq_applied_ty, paren_ty, last_ty, more_tys, last_ty_row, more_ty_rows, ty_row}
 use Rattle.sml_syntax.specs.Moves.{at_label, at_ty_con, at_ty_atom, at_ty_post, at_ty_seq_con, at_ty_factors, at_factors_rest, at_ty_arrow, at_tys_rest, at_record_ty, at_ty_rows_rest}
 use Rattle.sml_syntax.specs.Machine.{Accepts, emit, skip, eat}
-use Rattle.sml_fixity.specs.Ends.{Next, ends_ty}
-use Rattle.sml_fixity.proofs.Standing.{name_case, next_weaker, skip_inv}
+use Rattle.syntax_laws.specs.Ends.{Next, ends_ty}
+use Rattle.syntax_laws.proofs.Standing.{name_case, next_weaker, skip_inv}
 
 -- what ends a product of types
 abbrev ends_product : Look → Bool

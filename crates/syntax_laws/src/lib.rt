@@ -1,4 +1,4 @@
-//! The parser of Core Standard ML: so far, that its machine reads what the grammar says.
+//! Laws on the grammar and the machine that reads it.
 //!
 //! It stands on `sml_syntax` and `sml_tree`. Its main contract: `programs_are_accepted`, by which the machine accepts each program of the grammar, with its nodes and where each begins.
 #![tactic(auto)]
@@ -10,8 +10,8 @@ ghost use Rattle.sml_syntax.specs.declared.symbol.Symbol.TheVariants.{Pat, Ty};
 ghost use Rattle.sml_syntax.specs.Fixity.{Fix};
 ghost use Rattle.sml_syntax.specs.Grammar.{IsPat, IsTy, Parses};
 ghost use Rattle.sml_syntax.specs.Machine.{Accepts, start};
-ghost use Rattle.sml_fixity.specs.Ends.{ends_pat, ends_ty};
-ghost use Rattle.sml_fixity.specs.Laws.{IsAccepted};
+ghost use Rattle.syntax_laws.specs.Ends.{ends_pat, ends_ty};
+ghost use Rattle.syntax_laws.specs.Laws.{IsAccepted};
 
 /// The machine reads each type of the grammar, with its nodes.
 pub fn types_are_accepted()

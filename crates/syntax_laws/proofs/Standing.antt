@@ -14,7 +14,7 @@ use Rattle.sml_syntax.specs.declared.symbol.Push.{Push}
 use Rattle.sml_syntax.specs.declared.symbol.Push.TheVariants.{P0, P1, P2, P3, P4, P5, P6, P7}
 use Rattle.sml_syntax.specs.declared.symbol.Move.TheVariants.{Skip, Eat}
 use Rattle.sml_syntax.specs.Fixity.{Fix, directive_for, name_look, looks}
-use Rattle.sml_fixity.specs.Ends.{Next}
+use Rattle.syntax_laws.specs.Ends.{Next}
 use Rattle.sml_syntax.specs.Machine.{Accepts, done, emit, skip, eat, moves, pushed, after}
 
 -- an identifier under the directives in force

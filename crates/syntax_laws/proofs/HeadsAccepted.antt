@@ -21,11 +21,11 @@ use Rattle.sml_syntax.specs.Fixity.{Fix, looks, name_look, directive_for, or_els
 use Rattle.sml_syntax.specs.Grammar.{Kind, Phrase, IsVid, IsOpVid, IsLongVid, IsAtpat, IsAtpats, IsHead, vid, vid_equals, plain_vid, op_vid, short_vid, long_vid, op_long_vid, wild, vid_pat, scon_pat, int, char, text, IsScon, empty_record_pat, record_pat, unit_pat, tuple_pat, empty_list_pat, list_pat, paren_pat, last_atpat, more_atpats, prefix_head, infix_head, paren_head, paren_head_args}
 use Rattle.sml_syntax.specs.Moves.{is_ident, is_atpat, at_head, at_head_name, at_atpats_rest, at_head_first_op, at_head_second, at_head_closed}
 use Rattle.sml_syntax.specs.Machine.{Accepts, has_infix, infix_among, is_infix, emit, skip, eat}
-use Rattle.sml_fixity.specs.Ends.{Next}
-use Rattle.sml_fixity.proofs.Standing.{name_case, skip_inv}
-use Rattle.sml_fixity.proofs.PatternSteps.{at_first, id_first}
-use Rattle.sml_fixity.proofs.PatternsAccepted.{complete_pat}
-use Rattle.sml_fixity.proofs.HeadSteps.{head}
+use Rattle.syntax_laws.specs.Ends.{Next}
+use Rattle.syntax_laws.proofs.Standing.{name_case, skip_inv}
+use Rattle.syntax_laws.proofs.PatternSteps.{at_first, id_first}
+use Rattle.syntax_laws.proofs.PatternsAccepted.{complete_pat}
+use Rattle.syntax_laws.proofs.HeadSteps.{head}
 
 -- what stands behind a head
 abbrev pub head_end : Look → Bool

@@ -18,9 +18,9 @@ use Rattle.sml_syntax.specs.declared.symbol.Move.TheVariants.{Refuse, Skip, Eat}
 use Rattle.sml_syntax.specs.Fixity.{Fix, looks}
 use Rattle.sml_syntax.specs.Moves.{is_ident, is_atpat, at_head, at_head_name, at_head_op, at_head_first_op, at_head_second_end, at_head_end, at_head_closed, at_pat_op, at_pat_paren, at_pat_paren_rest}
 use Rattle.sml_syntax.specs.Machine.{Accepts, has_infix, emit, skip, eat, pushed}
-use Rattle.sml_fixity.specs.Ends.{}
-use Rattle.sml_fixity.proofs.Standing.{name_case, skip_inv, eat_inv, emit_inv, Grows, grow}
-use Rattle.sml_fixity.proofs.PatternSteps.{at_first, atpat_name, ident_atpat}
+use Rattle.syntax_laws.specs.Ends.{}
+use Rattle.syntax_laws.proofs.Standing.{name_case, skip_inv, eat_inv, emit_inv, Grows, grow}
+use Rattle.syntax_laws.proofs.PatternSteps.{at_first, atpat_name, ident_atpat}
 
 module _ (v : Bool) where
   -- an operator goes on a head

@@ -7,7 +7,7 @@ use Rattle.sml_syntax.specs.declared.symbol.Symbol.{Symbol}
 use Rattle.sml_syntax.specs.Fixity.{Fix}
 use Rattle.sml_syntax.specs.Grammar.{Kind, Phrase}
 use Rattle.sml_syntax.specs.Machine.{Accepts}
-use Rattle.sml_fixity.specs.Ends.{Next}
+use Rattle.syntax_laws.specs.Ends.{Next}
 
 -- Where a phrase of the kind stands before what ends it, its symbol makes the phrase's nodes and leaves the rest to the stack below.
 abbrev pub IsAccepted : Kind → Symbol → (Look → Bool) → Type 0

@@ -22,14 +22,14 @@ use Rattle.sml_syntax.specs.Grammar.{Kind, Phrase, Parses, IsProgram, IsDecs, Is
 use Rattle.sml_syntax.specs.Fixity.{Fix, looks, goes_on, operates, fits}
 use Rattle.sml_syntax.specs.Moves.{is_dec, at_vids, at_vids_rest, at_digit, at_paren_exp, at_list_exp, at_record_exp, at_label, at_ty_vars_rest, at_val_bind}
 use Rattle.sml_syntax.specs.Machine.{Accepts, done, emit, skip, eat, start}
-use Rattle.sml_fixity.specs.Ends.{Next}
-use Rattle.sml_fixity.proofs.Standing.{name_case, next_weaker, skip_inv}
-use Rattle.sml_fixity.proofs.TypesAccepted.{ends_list, complete_ty}
-use Rattle.sml_fixity.proofs.PatternSteps.{id_first, at_first}
-use Rattle.sml_fixity.proofs.PatternsAccepted.{complete_pat}
-use Rattle.sml_fixity.proofs.HeadsAccepted.{complete_head}
-use Rattle.sml_fixity.proofs.ExpressionSteps.{typed_end, conj_end, disj_end, exp_end, no_atexp, exp_closes, conj_typed, disj_conj, or_disj, exp_or, exp_true, typed_ty, typed_no_atexp, list_ends, seq_end, seq_exp, exp_first, word_first, id_atexp, args_go, args_skip, exp_go, or_go, and_go, word_go, ty_skip, and_skip, or_skip, handle_skip, bar_skip, items_skip, rows_skip, seq_skip, ops_skip, typed_closes, ops_eat, ops_end, closes_on, match_go, items_go, seq_go, rows_go}
-use Rattle.sml_fixity.proofs.DecSteps.{dec_end, decs_end, bind_end, con_end, dec_exp, dec_bind, bind_exp, bind_ty, bind_con, con_end_ty, ands, vids_end, bars, con_ofs, ex_rests, decs_skip, decs_dec, is_dec_end, dec_moves, at_next, val_seq, fun_seq, val_none, fun_none, ty_none}
+use Rattle.syntax_laws.specs.Ends.{Next}
+use Rattle.syntax_laws.proofs.Standing.{name_case, next_weaker, skip_inv}
+use Rattle.syntax_laws.proofs.TypesAccepted.{ends_list, complete_ty}
+use Rattle.syntax_laws.proofs.PatternSteps.{id_first, at_first}
+use Rattle.syntax_laws.proofs.PatternsAccepted.{complete_pat}
+use Rattle.syntax_laws.proofs.HeadsAccepted.{complete_head}
+use Rattle.syntax_laws.proofs.ExpressionSteps.{typed_end, conj_end, disj_end, exp_end, no_atexp, exp_closes, conj_typed, disj_conj, or_disj, exp_or, exp_true, typed_ty, typed_no_atexp, list_ends, seq_end, seq_exp, exp_first, word_first, id_atexp, args_go, args_skip, exp_go, or_go, and_go, word_go, ty_skip, and_skip, or_skip, handle_skip, bar_skip, items_skip, rows_skip, seq_skip, ops_skip, typed_closes, ops_eat, ops_end, closes_on, match_go, items_go, seq_go, rows_go}
+use Rattle.syntax_laws.proofs.DecSteps.{dec_end, decs_end, bind_end, con_end, dec_exp, dec_bind, bind_exp, bind_ty, bind_con, con_end_ty, ands, vids_end, bars, con_ofs, ex_rests, decs_skip, decs_dec, is_dec_end, dec_moves, at_next, val_seq, fun_seq, val_none, fun_none, ty_none}
 
 not_bracket : (n : ℕ) (l : Look) → not (ends_list l) ≡ true → (at_paren_exp n l ≡ Skip (P2 sy.Exp (sy.ParenRest n))) × (at_list_exp n l ≡ Skip (P3 sy.Items sy.WantCloseBracket (sy.Emit (made.Lead node.List n)))) × (at_record_exp n l ≡ Skip (P3 sy.Rows sy.WantCloseBrace (sy.Emit (made.Lead node.Record n))))
 not_bracket n (look.Other tok.Close) e = cc

@@ -18,10 +18,10 @@ use Rattle.sml_syntax.specs.declared.symbol.Move.TheVariants.{Refuse, Skip, Eat}
 use Rattle.sml_syntax.specs.Fixity.{Fix, looks}
 use Rattle.sml_syntax.specs.Moves.{is_atpat, is_dec, at_program, at_decs, at_vids_rest, at_val_ty_vars, at_val_paren, at_ty_var_list, at_val_and, at_fun_ty_vars, at_fun_paren, at_fun_and, at_clause_bar, at_typ_and, at_ty_vars, at_dat_and, at_con_of, at_con_bar, at_ex_rest, at_ex_and}
 use Rattle.sml_syntax.specs.Machine.{Accepts, has_infix, move_of, emit, skip, eat, moves, pushed}
-use Rattle.sml_fixity.specs.Ends.{Next, ends_ty}
-use Rattle.sml_fixity.proofs.Standing.{name_case, skip_inv, eat_inv}
-use Rattle.sml_fixity.proofs.PatternSteps.{at_first}
-use Rattle.sml_fixity.proofs.ExpressionSteps.{exp_end}
+use Rattle.syntax_laws.specs.Ends.{Next, ends_ty}
+use Rattle.syntax_laws.proofs.Standing.{name_case, skip_inv, eat_inv}
+use Rattle.syntax_laws.proofs.PatternSteps.{at_first}
+use Rattle.syntax_laws.proofs.ExpressionSteps.{exp_end}
 
 -- what stands behind a declaration
 abbrev pub dec_end : Look → Bool

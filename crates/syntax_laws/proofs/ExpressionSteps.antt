@@ -20,9 +20,9 @@ use Rattle.sml_syntax.specs.declared.symbol.Move.TheVariants.{Skip, Eat}
 use Rattle.sml_syntax.specs.Fixity.{Fix, looks, operates, alike, lefts, rights, fits}
 use Rattle.sml_syntax.specs.Moves.{is_ident, is_atexp, is_prefix, at_prefix, at_ty_rest, at_and_rest, at_or_rest, at_handle_rest, at_operates, at_match_bar, at_atexp, at_seq_rest, at_items_rest, at_rows_rest}
 use Rattle.sml_syntax.specs.Machine.{Accepts, emit, skip, eat}
-use Rattle.sml_fixity.specs.Ends.{Next, ends_ty}
-use Rattle.sml_fixity.proofs.TypesAccepted.{ends_list}
-use Rattle.sml_fixity.proofs.PatternsAccepted.{ops_never}
+use Rattle.syntax_laws.specs.Ends.{Next, ends_ty}
+use Rattle.syntax_laws.proofs.TypesAccepted.{ends_list}
+use Rattle.syntax_laws.proofs.PatternsAccepted.{ops_never}
 
 -- what ends an expression at each level
 abbrev pub typed_end : Look → Bool

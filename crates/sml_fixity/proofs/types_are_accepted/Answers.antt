@@ -1,5 +1,0 @@
-use Rattle.sml_fixity.proofs.TypesAccepted.{complete_ty}
-use Rattle.sml_fixity.proofs.types_are_accepted.Goals as goal
-
-pub returns : goal.returns
-returns c = λ v f a b o p k h n g. complete_ty v h k n g
