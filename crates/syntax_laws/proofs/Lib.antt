@@ -11,3 +11,4 @@ pub mod Means
 pub mod IdentifiersSound
 pub mod TypesSound
 pub mod PatternsSound
+pub mod ExpressionsSound

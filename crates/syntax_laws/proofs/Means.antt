@@ -121,9 +121,9 @@ module _ (v : Bool) where
   abbrev pub Reads : Kind → Rest → Fix → List Terminal → List Made → Type 0
   Reads n w f a o = (b : List Terminal) × (p : List Made) × Phrase v n f a b o p × w f b p
 
-  -- the rest, behind an expression
-  abbrev pub Past : Bool → Rest → Rest
-  Past m w f b p = At (past m) f b × w f b p
+  -- and an expression, or what ends in one
+  abbrev pub ReadsOpen : (Bool → Kind) → Rest → Fix → List Terminal → List Made → Type 0
+  ReadsOpen n w f a o = (m : Bool) × (b : List Terminal) × (p : List Made) × Phrase v (n m) f a b o p × At (past m) f b × w f b p
 
   -- a terminal stands next
   abbrev pub Wants : Terminal → Rest → Fix → List Terminal → List Made → Type 0
@@ -219,8 +219,8 @@ module _ (v : Bool) where
   Meaning sy.AnyLong w f a o = (b : List Terminal) × (p : List Made) × ((q : List Made) → p ≡ made.Lead node.Op (length (tok.Op ∷ a)) ∷ q → Phrase v IsLongVid f (tok.Op ∷ a) b o q) × w f b p
   Meaning sy.Label w f a o = Reads IsLabel w f a o
   -- expressions
-  Meaning sy.Exp w f a o = (m : Bool) × Reads (IsExp m) (Past m w) f a o
-  Meaning sy.Prefix w f a o = (m : Bool) × Reads (IsPrefix m) (Past m w) f a o
+  Meaning sy.Exp w f a o = ReadsOpen IsExp w f a o
+  Meaning sy.Prefix w f a o = ReadsOpen IsPrefix w f a o
   Meaning sy.TyRest w f a o = Longer IsTyped IsTyped w f a o
   Meaning sy.AndRest w f a o = (n : Kind) × (b : List Terminal) × (p : List Made) × Conjunction f b n × ((c : List Terminal) (q : List Made) → Phrase v IsConj f c a q o → Phrase v n f c b q p) × (At no_and f a → w f a o) × w f b p
   Meaning sy.AndRight w f a o = (n : Kind) × (b : List Terminal) × (p : List Made) × Operand f b n × Phrase v n f a b o p × w f b p
@@ -229,7 +229,7 @@ module _ (v : Bool) where
   Meaning sy.HandleRest w f a o = (m : Bool) × (b : List Terminal) × (p : List Made) × (At no_and f a → At no_or f a → At (past m) f b) × ((c : List Terminal) (q : List Made) → Phrase v IsDisj f c a q o → Phrase v (IsExp m) f c b q p) × (At no_handle f a → w f a o) × w f b p
   Meaning sy.Args w f a o = Longer IsApp IsApp w f a o
   Meaning (sy.Ops e) w f a o = (b : List Terminal) × (p : List Made) × ((c : List Terminal) (q : List Made) (m : Root) → Phrase v (IsInfix e m) f c a q o → At (closes v m) f a → (n : Root) × Phrase v (IsInfix e n) f c b q p) × At (closes v e) f b × w f b p
-  Meaning sy.Match w f a o = Reads IsMatch (Past true w) f a o
+  Meaning sy.Match w f a o = (b : List Terminal) × (p : List Made) × Phrase v IsMatch f a b o p × At (past true) f b × w f b p
   Meaning sy.MatchBar w f a o = (b : List Terminal) × (p : List Made) × ((m : Bool) (c : List Terminal) (q : List Made) → At (past m) f a → Phrase v (IsRule m) f c a q o → Phrase v IsMatch f c b q p × At (past true) f b) × w f b p
   Meaning sy.Atexp w f a o = Reads IsAtexp w f a o
   Meaning (sy.LetEnd j) w f a o = (b : List Terminal) × (a ≡ tok.End ∷ b) × w (take j f) b o
