@@ -12,3 +12,5 @@ pub mod IdentifiersSound
 pub mod TypesSound
 pub mod PatternsSound
 pub mod ExpressionsSound
+pub mod HeadsSound
+pub mod DecsSound

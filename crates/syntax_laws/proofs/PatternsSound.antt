@@ -20,7 +20,7 @@ use Rattle.syntax_laws.proofs.Means.{Seen, plain, operator, other, at_look, pat_
 module _ (v : Bool) (k : List Symbol) (f : Fix) (a : List Terminal) (o : List Made) where
 
   -- what goes on with an operand, and with operators of one precedence
-  pat_on : Means v (sy.PatOps root.Bare ∷ sy.PatTyRest ∷ k) f a o → Longer v IsOperand IsPat (Means v k) f a o
+  pub pat_on : Means v (sy.PatOps root.Bare ∷ sy.PatTyRest ∷ k) f a o → Longer v IsOperand IsPat (Means v k) f a o
   pat_on (b, p, g, z, (c, q, h, w)) = (c, q, (λ d u i. h _ _ (infix_pat_typed (g _ _ root.Bare (operand_pat i) (bare_pat_closes v f a)).1)), w)
 
   pub keeps_pat_ops : (e : Root) {t : Terminal} {l : Look} → Seen f t l → Keeps v (sy.PatOps e) k f t l a o
