@@ -14,3 +14,4 @@ pub mod PatternsSound
 pub mod ExpressionsSound
 pub mod HeadsSound
 pub mod DecsSound
+pub mod ProgramsSound

@@ -27,3 +27,8 @@ pub fn patterns_are_accepted()
 pub fn programs_are_accepted()
     ensures { (v : Bool) (f : Fix) (a : List Terminal) (o : List Made) → Parses v f a o → Accepts v start f a o }
 {}
+
+/// What the machine accepts is a program of the grammar, with its nodes.
+pub fn accepted_are_programs()
+    ensures { (v : Bool) (f : Fix) (a : List Terminal) (o : List Made) → Accepts v start f a o → Parses v f a o }
+{}
