@@ -17,7 +17,8 @@ use Rattle.sml_syntax.specs.declared.symbol.Move.TheVariants.{Mixed, Skip, Eat}
 use Rattle.sml_syntax.specs.Fixity.{Fix, looks, operates, fits}
 use Rattle.sml_syntax.specs.Moves.{at_operates, is_atexp, is_prefix, ends_at}
 use Rattle.sml_syntax.specs.Grammar.{Kind, Phrase, IsExp, IsConjEnd, IsPrefix, IsRule, IsDisj, IsConj, IsTyped, int, char, text, disj_exp, handle, conj_end_exp, orelse_end, prefix_end, andalso_end, raise, if_exp, while_exp, case_exp, fn_exp, conj_disj, orelse, typed_conj, andalso, infix_typed, typed, app_infix, operate, atexp_app, apply, vid_exp, scon_exp, empty_record, record_exp, unit, tuple, sequence, empty_list, list, let_exp, paren, last_item, more_items, last_seq, more_seq, last_row, more_rows, last_rule, more_rules, rule}
-use Rattle.syntax_laws.proofs.Means.{Seen, plain, other, is_seen, at_look, weaker, no_and, no_or, no_handle, no_bar, past, Operand, is_typed, is_prefix_end, Conjunction, is_conj, is_conj_end, Disjunction, is_disj, is_exp, Reads, Means, Kept, Keeps, to_token, to_node, at_nodes, led, bare_closes, ends_lefts, ends_root}
+use Rattle.syntax_laws.proofs.Means.{Seen, plain, other, is_seen, at_look, weaker, no_and, no_or, no_handle, no_bar, past, Operand, is_typed, is_prefix_end, Conjunction, is_conj, is_conj_end, Disjunction, is_disj, is_exp, Reads, Means, Kept, Keeps, to_token, to_node, at_nodes, led, bare_exp, ends_lefts}
+use Rattle.syntax_laws.proofs.ExpressionSteps.{root_closes}
 use Rattle.syntax_laws.proofs.ProgramsAccepted.{taken}
 
 -- what stands behind an expression goes on with none
@@ -54,7 +55,7 @@ closed n false e h = h
 module _ (v : Bool) (k : List Symbol) (f : Fix) (a : List Terminal) (o : List Made) where
   -- an application, then operators, then types
   to_typed : Means v (sy.Atexp ∷ sy.Args ∷ sy.Ops root.Bare ∷ sy.TyRest ∷ k) f a o → Reads v IsTyped (Means v k) f a o
-  to_typed (b, p, h, (c, q, g, (d, r, i, z, (u, s, j, w)))) = (u, s, j _ _ (infix_typed (i _ _ root.Bare (app_infix (g _ _ (atexp_app h))) (bare_closes v f c)).1), w)
+  to_typed (b, p, h, (c, q, g, (d, r, i, z, (u, s, j, w)))) = (u, s, j _ _ (infix_typed (i _ _ root.Bare (app_infix (g _ _ (atexp_app h))) (bare_exp v f c)).1), w)
 
   to_conj : Reads v IsTyped (Means v (sy.AndRest ∷ k)) f a o → Means v (sy.OrRight ∷ k) f a o
   to_conj (b, p, h, (n, c, q, d, g, x, w)) = (n, c, q, d, g _ _ (typed_conj h), w)
@@ -132,13 +133,13 @@ module _ (v : Bool) (k : List Symbol) (f : Fix) (a : List Terminal) (o : List Ma
       longer x n y (q, e1, (b, p, h, (c, r, g, (c2, r2, g2, z, (u, e2, (d, p2, j, z2, w)))))) = (
         d,
         p2,
-        (λ d2 u2 m i cl. j _ _ (root.Operator x.level x.right) (operate n y (sym (ap (ends_root v m) n) ∙ cl) (to_node e1 i) (to_node e2 (g2 _ _ root.Bare (app_infix (g _ _ (atexp_app h))) (bare_closes v f c)).1)) z),
+        (λ d2 u2 m i cl. j _ _ (root.Operator x.level x.right) (operate n y (sym (ap (root_closes v m) n) ∙ cl) (to_node e1 i) (to_node e2 (g2 _ _ root.Bare (app_infix (g _ _ (atexp_app h))) (bare_exp v f c)).1)) z),
         z2,
         w,
       )
 
       refused : (x : InfixVid) → operates (looks f t) ≡ Some x → (b : Bool) → ends_at v e x.level x.right ≡ b → Kept v (cond b (Skip P0) Mixed) (sy.Ops e) k f t a o
-      refused x n true y = λ w. (_, o, (λ c u m i cl. (m, i)), (ap (ends_root v e) n ∙ ends_lefts v e x.level x.right y), w)
+      refused x n true y = λ w. (_, o, (λ c u m i cl. (m, i)), (ap (root_closes v e) n ∙ ends_lefts v e x.level x.right y), w)
       refused x n false y = tt
 
       tried : (x : InfixVid) → operates (looks f t) ≡ Some x → (b : Bool) → fits e (root.Operator x.level x.right) ≡ b → Kept v (cond b (Eat (P6 (sy.Emit (made.Lead x.vid (length (t ∷ a)))) sy.Atexp sy.Args (sy.Ops (root.Operator x.level x.right)) (sy.Emit (made.Inner node.InfixExp)) (sy.Ops e))) (cond (ends_at v e x.level x.right) (Skip P0) Mixed)) (sy.Ops e) k f t a o
@@ -146,7 +147,7 @@ module _ (v : Bool) (k : List Symbol) (f : Fix) (a : List Terminal) (o : List Ma
       tried x n false y = refused x n (ends_at v e x.level x.right) refl
 
       go : (w : Option InfixVid) → operates (looks f t) ≡ w → Kept v (at_operates v e (length (t ∷ a)) w) (sy.Ops e) k f t a o
-      go None n = λ w. (_, o, (λ c u m i cl. (m, i)), ap (ends_root v e) n, w)
+      go None n = λ w. (_, o, (λ c u m i cl. (m, i)), ap (root_closes v e) n, w)
       go (Some x) n = tried x n (fits e (root.Operator x.level x.right)) refl
 
   pub keeps_args : {t : Terminal} {l : Look} → Seen f t l → Keeps v sy.Args k f t l a o

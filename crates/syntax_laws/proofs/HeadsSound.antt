@@ -16,7 +16,7 @@ use Rattle.sml_syntax.specs.Fixity.{Fix}
 use Rattle.sml_syntax.specs.Moves.{is_ident, is_atpat}
 use Rattle.sml_syntax.specs.Machine.{has_infix}
 use Rattle.sml_syntax.specs.Grammar.{Phrase, IsInfixPat, IsHead, IsLongVid, IsOperand, prefix_head, infix_head, paren_head, paren_head_args, last_atpat, more_atpats, vid, vid_equals, plain_vid, op_vid, short_vid, long_vid, op_long_vid, typed_pat_pat, infix_pat_typed, operand_pat, infix_pat, atpat_operand, con_pat, vid_pat, unit_pat, tuple_pat, paren_pat}
-use Rattle.syntax_laws.proofs.Means.{Seen, plain, operator, other, named_by, First, Means, Kept, Keeps, to_token, to_node, at_nodes, led, made_on, bare_pat_closes}
+use Rattle.syntax_laws.proofs.Means.{Seen, plain, operator, other, named_by, First, Means, Kept, Keeps, to_token, to_node, at_nodes, led, made_on, bare_pat}
 use Rattle.syntax_laws.proofs.PatternsSound.{pat_on}
 
 -- an identifier that may be long
@@ -105,7 +105,7 @@ module _ (v : Bool) (k : List Symbol) (f : Fix) (a : List Terminal) (o : List Ma
   second_on : (e : Root) (i : ℕ) → Means v (sy.PatOps e ∷ sy.Emit (made.Inner node.InfixPat) ∷ sy.PatOps root.Bare ∷ sy.PatTyRest ∷ sy.HeadEnd i ∷ k) f a o → (b : List Terminal) × (p : List Made) × ((c d : List Terminal) (q u : List Made) → First v f e i c q d u → Phrase v IsOperand f d a u o → Phrase v IsHead f (tok.Open ∷ c) b q p) × Means v k f b p
   second_on e i (b, p, g, z, (r, e1, w)) =
       let (b2, p2, g2, z2, (b3, p3, j, (b4, p4, m, x))) = w in
-      (b4, p4, (λ c d q u y h. m _ _ y.is_at (j _ _ (infix_pat_typed (g2 _ _ e (infixed y (to_node e1 (g _ _ root.Bare (operand_pat h) (bare_pat_closes v f a)).1)) z).1))), x)
+      (b4, p4, (λ c d q u y h. m _ _ y.is_at (j _ _ (infix_pat_typed (g2 _ _ e (infixed y (to_node e1 (g _ _ root.Bare (operand_pat h) (bare_pat v f a)).1)) z).1))), x)
 
   -- the second operand
   pub keeps_head_second : (e : Root) (i : ℕ) {t : Terminal} {l : Look} → Seen f t l → Keeps v (sy.HeadSecond e i) k f t l a o

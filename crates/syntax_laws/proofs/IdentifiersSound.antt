@@ -15,7 +15,6 @@ use Rattle.sml_syntax.specs.Grammar.{vid, vid_equals, plain_vid, op_vid, short_v
 use Rattle.syntax_laws.proofs.Means.{Seen, plain, operator, other, Kept, Keeps, to_node, at_nodes, made_on}
 
 module _ (v : Bool) (k : List Symbol) (f : Fix) (a : List Terminal) (o : List Made) where
-
   -- identifiers, with `op` and without it
   pub keeps_op_vid : {t : Terminal} {l : Look} → Seen f t l → Keeps v sy.OpVid k f t l a o
   keeps_op_vid (other tok.Op _) = λ (b, p, h, (q, e, w)). (b, q, op_vid (to_node e h), w)

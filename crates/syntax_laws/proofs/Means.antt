@@ -1,5 +1,5 @@
 -- What a stack stands for, in the grammar's words, and what a move owes to it.
-use Rattle.std.proofs.Common.{◌≡◌, ℕ, ◌++◌, Bool, true, false, ◌&&◌, not, take, drop, ◌⊎◌, inl, inr, cond, Option, Some, None, List, [], ◌∷◌, length, refl, sym, ap, ◌∙◌, subst}
+use Rattle.std.proofs.Common.{◌≡◌, ℕ, ◌++◌, Bool, true, false, not, take, drop, ◌⊎◌, Option, Some, None, List, [], ◌∷◌, length, refl, sym, ap, ◌∙◌, subst}
 use Rattle.smlc_base.specs.declared.names.Name.{Name}
 use Rattle.sml_tree.specs.declared.status.Status.{Status}
 use Rattle.sml_tree.specs.declared.status.Status.TheVariants as status
@@ -13,15 +13,17 @@ use Rattle.sml_syntax.specs.declared.forms.Root.{Root}
 use Rattle.sml_syntax.specs.declared.forms.Root.TheVariants as root
 use Rattle.sml_syntax.specs.declared.forms.Look.{Look}
 use Rattle.sml_syntax.specs.declared.forms.Look.TheVariants as look
+use Rattle.sml_syntax.specs.declared.forms.InfixVid.{InfixVid}
 use Rattle.sml_syntax.specs.declared.symbol.Symbol.{Symbol}
 use Rattle.sml_syntax.specs.declared.symbol.Symbol.TheVariants as sy
 use Rattle.sml_syntax.specs.declared.symbol.Move.{Move}
-use Rattle.sml_syntax.specs.declared.symbol.Move.TheVariants.{Refuse, Mixed, Skip, Eat}
+use Rattle.sml_syntax.specs.declared.symbol.Move.TheVariants.{Skip, Eat}
 use Rattle.sml_syntax.specs.Fixity.{Fix, directive_for, name_look, looks, lefts, operates}
-use Rattle.sml_syntax.specs.Grammar.{Kind, Phrase, IsProgram, IsDecs, IsDec, IsDigit, IsVids, IsClause, IsExp, IsConjEnd, IsPrefix, IsRule, IsInfix, IsInfixPat, IsTyVars, IsTyVarList, IsValBind, IsFunBinds, IsClauses, IsHead, IsAtpats, IsTypBinds, IsTypBind, IsDatBinds, IsDatBind, IsConBinds, IsConBind, IsExBinds, IsExBind, IsVid, IsOpVid, IsLongVid, IsTyCon, IsLongTyCon, IsLabel, IsScon, IsDisj, IsConj, IsTyped, IsApp, IsAtexp, IsItems, IsSeq, IsRows, IsMatch, IsPat, IsTypedPat, IsOperand, IsAtpat, IsPats, IsPatRows, IsPatRow, IsPun, IsTy, IsProduct, IsFactors, IsTyAtom, IsTys, IsTyRows, IsTyRow}
-use Rattle.sml_syntax.specs.declared.forms.InfixVid.{InfixVid}
+use Rattle.sml_syntax.specs.Grammar.{Kind, Phrase, IsProgram, IsDecs, IsDec, IsDigit, IsVids, IsClause, IsExp, IsConjEnd, IsPrefix, IsRule, IsInfix, IsInfixPat, IsTyVars, IsTyVarList, IsValBind, IsFunBinds, IsClauses, IsHead, IsAtpats, IsTypBinds, IsTypBind, IsDatBinds, IsDatBind, IsConBinds, IsConBind, IsExBinds, IsExBind, IsVid, IsOpVid, IsLongVid, IsTyCon, IsLabel, IsDisj, IsConj, IsTyped, IsApp, IsAtexp, IsItems, IsSeq, IsRows, IsMatch, IsPat, IsTypedPat, IsOperand, IsAtpat, IsPats, IsPatRows, IsPatRow, IsPun, IsTy, IsProduct, IsFactors, IsTyAtom, IsTys, IsTyRows, IsTyRow}
 use Rattle.sml_syntax.specs.Moves.{ends_at}
 use Rattle.sml_syntax.specs.Machine.{pushed, after, move_of, has_infix}
+use Rattle.syntax_laws.proofs.PatternSteps.{closes}
+use Rattle.syntax_laws.proofs.ExpressionSteps.{root_closes, exp_closes}
 
 -- a terminal, as the machine sees it
 pub data Seen (f : Fix) : Terminal → Look → Type 0 where
@@ -79,21 +81,6 @@ past m (look.Other tok.Handle) = false
 past m (look.Other tok.Bar) = not m
 past m _ = true
 
-abbrev pub infix_of : Look → Option InfixVid
-infix_of (look.Operator x s l r) = Some (record { vid = node.Vid x; level = l; right = r })
-infix_of _ = None
-
-abbrev pub ends_root : Bool → Root → Option InfixVid → Bool
-ends_root v m (Some w) = lefts v m w.level w.right
-ends_root v m None = true
-
--- an operator that stands next has a phrase with this root as its left part: in an expression, and in a pattern
-abbrev pub closes : Bool → Root → Look → Bool
-closes v m l = ends_root v m (operates l)
-
-abbrev pub pat_closes : Bool → Root → Look → Bool
-pat_closes v m l = ends_root v m (infix_of l)
-
 -- an operand of andalso, a conjunction, and a disjunction, or what ends in an expression in its place
 pub data Operand (f : Fix) (b : List Terminal) : Kind → Type 0 where
   is_typed : Operand f b IsTyped
@@ -133,8 +120,8 @@ module _ (v : Bool) where
   abbrev pub Longer : Kind → Kind → Rest → Fix → List Terminal → List Made → Type 0
   Longer m n w f a o = (b : List Terminal) × (p : List Made) × ((c : List Terminal) (q : List Made) → Phrase v m f c a q o → Phrase v n f c b q p) × w f b p
 
-  abbrev pub LongerExp : (Bool → Kind) → Kind → Rest → Fix → List Terminal → List Made → Type 0
-  LongerExp m n w f a o = (b : List Terminal) × (p : List Made) × ((i : Bool) (c : List Terminal) (q : List Made) → Phrase v (m i) f c a q o → Phrase v n f c b q p) × w f b p
+  abbrev pub LongerExp : Kind → Rest → Fix → List Terminal → List Made → Type 0
+  LongerExp n w f a o = (b : List Terminal) × (p : List Made) × ((m : Bool) (c : List Terminal) (q : List Made) → Phrase v (IsExp m) f c a q o → Phrase v n f c b q p) × w f b p
 
   -- and so are two with a terminal between them
   abbrev pub LongerPair : Kind → Terminal → Kind → Kind → Rest → Fix → List Terminal → List Made → Type 0
@@ -228,17 +215,17 @@ module _ (v : Bool) where
   Meaning sy.OrRight w f a o = (n : Kind) × (b : List Terminal) × (p : List Made) × Conjunction f b n × Phrase v n f a b o p × w f b p
   Meaning sy.HandleRest w f a o = (m : Bool) × (b : List Terminal) × (p : List Made) × (At no_and f a → At no_or f a → At (past m) f b) × ((c : List Terminal) (q : List Made) → Phrase v IsDisj f c a q o → Phrase v (IsExp m) f c b q p) × (At no_handle f a → w f a o) × w f b p
   Meaning sy.Args w f a o = Longer IsApp IsApp w f a o
-  Meaning (sy.Ops e) w f a o = (b : List Terminal) × (p : List Made) × ((c : List Terminal) (q : List Made) (m : Root) → Phrase v (IsInfix e m) f c a q o → At (closes v m) f a → (n : Root) × Phrase v (IsInfix e n) f c b q p) × At (closes v e) f b × w f b p
+  Meaning (sy.Ops e) w f a o = (b : List Terminal) × (p : List Made) × ((c : List Terminal) (q : List Made) (m : Root) → Phrase v (IsInfix e m) f c a q o → At (exp_closes v m) f a → (n : Root) × Phrase v (IsInfix e n) f c b q p) × At (exp_closes v e) f b × w f b p
   Meaning sy.Match w f a o = (b : List Terminal) × (p : List Made) × Phrase v IsMatch f a b o p × At (past true) f b × w f b p
   Meaning sy.MatchBar w f a o = (b : List Terminal) × (p : List Made) × ((m : Bool) (c : List Terminal) (q : List Made) → At (past m) f a → Phrase v (IsRule m) f c a q o → Phrase v IsMatch f c b q p × At (past true) f b) × w f b p
   Meaning sy.Atexp w f a o = Reads IsAtexp w f a o
   Meaning (sy.LetEnd j) w f a o = (b : List Terminal) × (a ≡ tok.End ∷ b) × w (take j f) b o
   Meaning sy.Seq w f a o = Reads IsSeq w f a o
-  Meaning sy.SeqRest w f a o = LongerExp IsExp IsSeq w f a o
+  Meaning sy.SeqRest w f a o = LongerExp IsSeq w f a o
   Meaning (sy.ParenExp i) w f a o = Behind tok.Open IsAtexp i w f a o
   Meaning (sy.ParenRest i) w f a o = (b : List Terminal) × (p : List Made) × ((m : Bool) (c : List Terminal) (q : List Made) → i ≡ length (tok.Open ∷ c) → Phrase v (IsExp m) f c a q o → Phrase v IsAtexp f (tok.Open ∷ c) b q p) × w f b p
   Meaning sy.Items w f a o = Reads IsItems w f a o
-  Meaning sy.ItemsRest w f a o = LongerExp IsExp IsItems w f a o
+  Meaning sy.ItemsRest w f a o = LongerExp IsItems w f a o
   Meaning (sy.ListExp i) w f a o = Behind tok.OpenBracket IsAtexp i w f a o
   Meaning (sy.RecordExp i) w f a o = Behind tok.OpenBrace IsAtexp i w f a o
   Meaning sy.Rows w f a o = Reads IsRows w f a o
@@ -250,7 +237,7 @@ module _ (v : Bool) where
   Meaning sy.PatNameTy w f a o = LongerPair IsOpVid tok.Colon IsTy IsPat w f a o
   Meaning sy.PatLong w f a o = Longer IsLongVid IsPat w f a o
   Meaning sy.PatTyRest w f a o = Longer IsTypedPat IsPat w f a o
-  Meaning (sy.PatOps e) w f a o = (b : List Terminal) × (p : List Made) × ((c : List Terminal) (q : List Made) (m : Root) → Phrase v (IsInfixPat e m) f c a q o → At (pat_closes v m) f a → (n : Root) × Phrase v (IsInfixPat e n) f c b q p) × At (pat_closes v e) f b × w f b p
+  Meaning (sy.PatOps e) w f a o = (b : List Terminal) × (p : List Made) × ((c : List Terminal) (q : List Made) (m : Root) → Phrase v (IsInfixPat e m) f c a q o → At (closes v m) f a → (n : Root) × Phrase v (IsInfixPat e n) f c b q p) × At (closes v e) f b × w f b p
   Meaning sy.PatOperand w f a o = Reads IsOperand w f a o
   Meaning sy.PatArg w f a o = Longer IsLongVid IsOperand w f a o
   Meaning sy.Atpat w f a o = Reads IsAtpat w f a o
@@ -309,22 +296,22 @@ module _ (v : Bool) where
   abbrev pub Keeps : Symbol → List Symbol → Fix → Terminal → Look → List Terminal → List Made → Type 0
   Keeps s k f t l a o = Kept (move_of v s (has_infix f) (length f) (length (t ∷ a)) l) s k f t a o
 
--- with root Bare every operator goes on
-pub bare_closes : (v : Bool) (f : Fix) (a : List Terminal) → At (closes v root.Bare) f a
-bare_closes v f [] = tt
-bare_closes v f (t ∷ a) = go (operates (looks f t))
+-- a phrase without an operator at its root is a left part of each
+pub bare_exp : (v : Bool) (f : Fix) (a : List Terminal) → At (exp_closes v root.Bare) f a
+bare_exp v f [] = tt
+bare_exp v f (t ∷ a) = go (operates (looks f t))
   where
-    go : (w : Option InfixVid) → ends_root v root.Bare w ≡ true
+    go : (w : Option InfixVid) → root_closes v root.Bare w ≡ true
     go (Some w) = refl
     go None = refl
 
-pub bare_pat_closes : (v : Bool) (f : Fix) (a : List Terminal) → At (pat_closes v root.Bare) f a
-bare_pat_closes v f [] = tt
-bare_pat_closes v f (t ∷ a) = go (infix_of (looks f t))
+pub bare_pat : (v : Bool) (f : Fix) (a : List Terminal) → At (closes v root.Bare) f a
+bare_pat v f [] = tt
+bare_pat v f (t ∷ a) = go (looks f t)
   where
-    go : (w : Option InfixVid) → ends_root v root.Bare w ≡ true
-    go (Some w) = refl
-    go None = refl
+    go : (l : Look) → closes v root.Bare l ≡ true
+    go (look.Operator x s l r) = refl
+    go _ = refl
 
 pub ends_lefts : (v : Bool) (e : Root) (l : ℕ) (r : Bool) → ends_at v e l r ≡ true → lefts v e l r ≡ true
 ends_lefts v root.Bare l r y = refl

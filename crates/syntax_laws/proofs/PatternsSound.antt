@@ -15,13 +15,13 @@ use Rattle.sml_syntax.specs.declared.symbol.Move.TheVariants.{Refuse, Mixed, Ski
 use Rattle.sml_syntax.specs.Fixity.{Fix, fits, is_label}
 use Rattle.sml_syntax.specs.Moves.{is_ident, is_atpat, ends_at}
 use Rattle.sml_syntax.specs.Grammar.{IsPat, IsOperand, vid, vid_equals, plain_vid, op_vid, short_vid, long_vid, op_long_vid, label, label_number, int, char, text, typed_pat_pat, layered, typed_layered, infix_pat_typed, typed_pat, operand_pat, infix_pat, atpat_operand, con_pat, wild, vid_pat, scon_pat, empty_record_pat, record_pat, unit_pat, tuple_pat, empty_list_pat, list_pat, paren_pat, last_pat, more_pats, last_pat_row, more_pat_rows, pat_row, pun_row, typed_pun_row, pun_row_as, typed_pun_row_as, pun}
-use Rattle.syntax_laws.proofs.Means.{Seen, plain, operator, other, at_look, pat_closes, Longer, Means, Kept, Keeps, to_token, to_node, at_nodes, led, made_on, bare_pat_closes, ends_lefts}
+use Rattle.syntax_laws.proofs.Means.{Seen, plain, operator, other, at_look, Longer, Means, Kept, Keeps, to_token, to_node, at_nodes, led, made_on, bare_pat, ends_lefts}
+use Rattle.syntax_laws.proofs.PatternSteps.{closes}
 
 module _ (v : Bool) (k : List Symbol) (f : Fix) (a : List Terminal) (o : List Made) where
-
   -- what goes on with an operand, and with operators of one precedence
   pub pat_on : Means v (sy.PatOps root.Bare ∷ sy.PatTyRest ∷ k) f a o → Longer v IsOperand IsPat (Means v k) f a o
-  pat_on (b, p, g, z, (c, q, h, w)) = (c, q, (λ d u i. h _ _ (infix_pat_typed (g _ _ root.Bare (operand_pat i) (bare_pat_closes v f a)).1)), w)
+  pat_on (b, p, g, z, (c, q, h, w)) = (c, q, (λ d u i. h _ _ (infix_pat_typed (g _ _ root.Bare (operand_pat i) (bare_pat v f a)).1)), w)
 
   pub keeps_pat_ops : (e : Root) {t : Terminal} {l : Look} → Seen f t l → Keeps v (sy.PatOps e) k f t l a o
   keeps_pat_ops e (operator {x = x} {s = s} {l = l} {r = r} n) = tried (fits e (root.Operator l r)) refl
@@ -30,19 +30,19 @@ module _ (v : Bool) (k : List Symbol) (f : Fix) (a : List Terminal) (o : List Ma
       longer y (q, e1, (b, p, h, (c, q2, g, z, (u, e2, (d, p2, j, z2, w))))) = (
         d,
         p2,
-        (λ c2 u2 m i cl. j _ _ (root.Operator l r) (infix_pat n y (ap (pat_closes v m) (sym n) ∙ cl) (to_node e1 i) (to_node e2 (g _ _ root.Bare (operand_pat h) (bare_pat_closes v f b)).1)) z),
+        (λ c2 u2 m i cl. j _ _ (root.Operator l r) (infix_pat n y (ap (closes v m) (sym n) ∙ cl) (to_node e1 i) (to_node e2 (g _ _ root.Bare (operand_pat h) (bare_pat v f b)).1)) z),
         z2,
         w,
       )
 
       refused : (b : Bool) → ends_at v e l r ≡ b → Kept v (cond b (Skip P0) Mixed) (sy.PatOps e) k f (tok.Id x s) a o
-      refused true y = λ w. (_, o, (λ c u m i cl. (m, i)), at_look (pat_closes v e) f a (operator n) (ends_lefts v e l r y), w)
+      refused true y = λ w. (_, o, (λ c u m i cl. (m, i)), at_look (closes v e) f a (operator n) (ends_lefts v e l r y), w)
       refused false y = tt
 
       tried : (b : Bool) → fits e (root.Operator l r) ≡ b → Kept v (cond b (Eat (P5 (sy.Emit (made.Lead (node.Vid x) (length (tok.Id x s ∷ a)))) sy.PatOperand (sy.PatOps (root.Operator l r)) (sy.Emit (made.Inner node.InfixPat)) (sy.PatOps e))) (cond (ends_at v e l r) (Skip P0) Mixed)) (sy.PatOps e) k f (tok.Id x s) a o
       tried true y = longer y
       tried false y = refused (ends_at v e l r) refl
-  keeps_pat_ops e s = λ w. (_, _, (λ c u m i cl. (m, i)), at_look (pat_closes v e) f a s refl, w)
+  keeps_pat_ops e s = λ w. (_, _, (λ c u m i cl. (m, i)), at_look (closes v e) f a s refl, w)
 
   pub keeps_pat_operand : {t : Terminal} {l : Look} → Seen f t l → Keeps v sy.PatOperand k f t l a o
   keeps_pat_operand {t = t} {l = l} s = go (is_ident l)

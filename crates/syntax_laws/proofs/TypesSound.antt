@@ -1,24 +1,15 @@
 -- What the symbols of types read is a type.
-use Rattle.std.proofs.Common.{◌≡◌, ℕ, Bool, true, false, cond, List, [], ◌∷◌, length, refl, sym, ap}
-use Rattle.smlc_base.specs.declared.names.Name.{Name}
-use Rattle.sml_tree.specs.declared.tree_node.TreeNode.{TreeNode}
+use Rattle.std.proofs.Common.{ℕ, Bool, true, false, List, refl}
 use Rattle.sml_tree.specs.declared.tree_node.TreeNode.TheVariants as node
 use Rattle.sml_syntax.specs.declared.forms.Terminal.{Terminal}
 use Rattle.sml_syntax.specs.declared.forms.Terminal.TheVariants as tok
-use Rattle.sml_syntax.specs.declared.forms.Shape.{Shape}
 use Rattle.sml_syntax.specs.declared.forms.Made.{Made}
-use Rattle.sml_syntax.specs.declared.forms.Made.TheVariants as made
 use Rattle.sml_syntax.specs.declared.forms.Look.{Look}
-use Rattle.sml_syntax.specs.declared.forms.Look.TheVariants as look
 use Rattle.sml_syntax.specs.declared.symbol.Symbol.{Symbol}
 use Rattle.sml_syntax.specs.declared.symbol.Symbol.TheVariants as sy
-use Rattle.sml_syntax.specs.declared.symbol.Push.{Push}
-use Rattle.sml_syntax.specs.declared.symbol.Push.TheVariants.{P0, P1, P2, P3, P4, P5, P6, P7}
-use Rattle.sml_syntax.specs.declared.symbol.Move.{Move}
-use Rattle.sml_syntax.specs.declared.symbol.Move.TheVariants.{Refuse, Mixed, Skip, Eat}
-use Rattle.sml_syntax.specs.Fixity.{Fix, looks, is_label}
-use Rattle.sml_syntax.specs.Grammar.{Kind, Phrase, IsTy, IsTys, IsTyAtom, IsProduct, IsFactors, IsTyRows, IsTyRow, IsLabel, IsTyCon, IsLongTyCon, product_ty, arrow_ty, single_product, product, last_factor, more_factors, var_ty, empty_record_ty, record_ty, con_ty, applied_ty, seq_applied_ty, paren_ty, last_ty, more_tys, last_ty_row, more_ty_rows, ty_row, label, label_number, tycon, short_tycon, long_tycon}
-use Rattle.syntax_laws.proofs.Means.{Seen, plain, operator, other, Means, Kept, Keeps, to_token, to_node, at_nodes, led}
+use Rattle.sml_syntax.specs.Fixity.{Fix}
+use Rattle.sml_syntax.specs.Grammar.{product_ty, arrow_ty, single_product, product, last_factor, more_factors, var_ty, empty_record_ty, record_ty, con_ty, applied_ty, seq_applied_ty, paren_ty, last_ty, more_tys, last_ty_row, more_ty_rows, ty_row, tycon, short_tycon, long_tycon}
+use Rattle.syntax_laws.proofs.Means.{Seen, plain, operator, other, Keeps, to_token, to_node, at_nodes, led}
 
 module _ (v : Bool) (k : List Symbol) (f : Fix) (a : List Terminal) (o : List Made) where
   -- types, from the arrow inward

@@ -1,6 +1,6 @@
 //! Laws on the grammar and the machine that reads it.
 //!
-//! It stands on `sml_syntax` and `sml_tree`. Its main contract: `programs_are_accepted`, by which the machine accepts each program of the grammar, with its nodes and where each begins.
+//! It stands on `sml_syntax` and `sml_tree`. Its main contracts: `programs_are_accepted` and `accepted_are_programs`, by which the machine accepts each program of the grammar, with its nodes and where each begins, and nothing else.
 #![tactic(auto)]
 
 ghost use Rattle.std.specs.Prelude.{Bool, List};
