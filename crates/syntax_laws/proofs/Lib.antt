@@ -11,7 +11,7 @@ pub mod Means
 pub mod IdentifiersSound
 pub mod TypesSound
 pub mod PatternsSound
-pub mod ExpressionsSound
 pub mod HeadsSound
+pub mod ExpressionsSound
 pub mod DecsSound
 pub mod ProgramsSound

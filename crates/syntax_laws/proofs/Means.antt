@@ -116,14 +116,15 @@ module _ (v : Bool) where
   abbrev pub Wants : Terminal → Rest → Fix → List Terminal → List Made → Type 0
   Wants t w f a o = (b : List Terminal) × (a ≡ t ∷ b) × w f b o
 
-  -- a phrase of the first kind that ends here is the beginning of one of the second
+  -- a phrase of the first kind that ends here begins one of the second
   abbrev pub Longer : Kind → Kind → Rest → Fix → List Terminal → List Made → Type 0
   Longer m n w f a o = (b : List Terminal) × (p : List Made) × ((c : List Terminal) (q : List Made) → Phrase v m f c a q o → Phrase v n f c b q p) × w f b p
 
+  -- and so does an expression
   abbrev pub LongerExp : Kind → Rest → Fix → List Terminal → List Made → Type 0
   LongerExp n w f a o = (b : List Terminal) × (p : List Made) × ((m : Bool) (c : List Terminal) (q : List Made) → Phrase v (IsExp m) f c a q o → Phrase v n f c b q p) × w f b p
 
-  -- and so are two with a terminal between them
+  -- and so do two with a terminal between them
   abbrev pub LongerPair : Kind → Terminal → Kind → Kind → Rest → Fix → List Terminal → List Made → Type 0
   LongerPair m t l n w f a o = (b : List Terminal) × (p : List Made) × ((c d : List Terminal) (q s : List Made) → Phrase v m f c (t ∷ d) q s → Phrase v l f d a s o → Phrase v n f c b q p) × w f b p
 
@@ -209,6 +210,7 @@ module _ (v : Bool) where
   Meaning sy.Exp w f a o = ReadsOpen IsExp w f a o
   Meaning sy.Prefix w f a o = ReadsOpen IsPrefix w f a o
   Meaning sy.TyRest w f a o = Longer IsTyped IsTyped w f a o
+  -- behind what ends in an expression, the rest of a conjunction, a disjunction and an expression is nothing
   Meaning sy.AndRest w f a o = (n : Kind) × (b : List Terminal) × (p : List Made) × Conjunction f b n × ((c : List Terminal) (q : List Made) → Phrase v IsConj f c a q o → Phrase v n f c b q p) × (At no_and f a → w f a o) × w f b p
   Meaning sy.AndRight w f a o = (n : Kind) × (b : List Terminal) × (p : List Made) × Operand f b n × Phrase v n f a b o p × w f b p
   Meaning sy.OrRest w f a o = (n : Kind) × (b : List Terminal) × (p : List Made) × (At no_and f a → Disjunction f b n) × ((c : List Terminal) (q : List Made) → Phrase v IsDisj f c a q o → Phrase v n f c b q p) × (At no_or f a → w f a o) × w f b p
@@ -293,6 +295,7 @@ module _ (v : Bool) where
   Kept (Eat p) s k f t a o = Means (pushed p k) (after s t f) a o → Means (s ∷ k) f (t ∷ a) o
   Kept _ s k f t a o = Unit {0}
 
+  -- and so does what the symbol does at a terminal
   abbrev pub Keeps : Symbol → List Symbol → Fix → Terminal → Look → List Terminal → List Made → Type 0
   Keeps s k f t l a o = Kept (move_of v s (has_infix f) (length f) (length (t ∷ a)) l) s k f t a o
 
