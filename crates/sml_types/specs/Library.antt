@@ -1,5 +1,5 @@
 -- The types of the library: its type names with their constructors, its exceptions, and its primitives.
-use Rattle.std.specs.Prelude.{◌≡◌, ℕ, suc, Bool, true, false, Option, Some, None, List, [], ◌∷◌, map, codes, pos, take}
+use Rattle.std.specs.Prelude.{◌≡◌, ℕ, suc, true, false, Option, Some, None, List, [], ◌∷◌, codes, pos, take}
 use Rattle.smlc_base.specs.declared.primitive.Primitive.{Primitive}
 use Rattle.smlc_base.specs.declared.primitive.Primitive.TheVariants as prim
 use Rattle.sml_tree.specs.declared.bare.Lab.{Lab}
@@ -13,7 +13,7 @@ use Rattle.sml_types.specs.declared.tables.Equality.{Equality}
 use Rattle.sml_types.specs.declared.tables.Equality.TheVariants.{Never, Always, Parts}
 use Rattle.sml_types.specs.declared.tables.ConRow.{ConRow}
 use Rattle.sml_types.specs.declared.tables.TypeName.{TypeName}
-use Rattle.sml_types.specs.Tree.{Head, ArrowHead, FieldsHead, NameHead, Tree, Variable, App, NoParts, Part}
+use Rattle.sml_types.specs.Tree.{ArrowHead, FieldsHead, NameHead, Tree, Variable, App, NoParts, Part}
 use Rattle.sml_types.specs.Forms.{tree}
 use Rattle.sml_types.specs.Poly.{Poly, poly, mono}
 

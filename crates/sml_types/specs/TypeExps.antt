@@ -1,5 +1,5 @@
 -- What a written type means.
-use Rattle.std.specs.Prelude.{◌≡◌, ℕ, Bool, false, cond, nat_eq, Option, Some, None, List, [], ◌∷◌, length, slice_get, get_or}
+use Rattle.std.specs.Prelude.{◌≡◌, ℕ, Bool, false, cond, nat_eq, Some, List, [], ◌∷◌, length, slice_get, get_or}
 use Rattle.std.specs.List.{AllByRecursion}
 use Rattle.sml_tree.specs.declared.bare.Lab.{Lab}
 use Rattle.sml_tree.specs.declared.bare.TypeField.{TypeField}

@@ -1,5 +1,5 @@
 -- A typing of a bare tree: types are guessed, and each node's rule is asked of them.
-use Rattle.std.specs.Prelude.{◌≡◌, ℕ, suc, ◌<◌, Bool, true, false, ◌⊎◌, Option, Some, None, List, [], ◌∷◌, ◌++◌, length, slice_get, get_or, take}
+use Rattle.std.specs.Prelude.{◌≡◌, ℕ, suc, ◌<◌, Bool, true, false, ◌⊎◌, Option, Some, None, List, [], ◌∷◌, ◌++◌, length, slice_get, get_or}
 use Rattle.std.specs.List.{AllByRecursion}
 use Rattle.sml_tree.specs.declared.bare.Bare.{Bare}
 use Rattle.sml_tree.specs.declared.bare.Con.{Con}
@@ -20,12 +20,12 @@ use Rattle.sml_types.specs.declared.types.TyVar.{TyVar}
 use Rattle.sml_types.specs.declared.types.TyForm.{TyForm}
 use Rattle.sml_types.specs.declared.tables.ConRow.{ConRow}
 use Rattle.sml_types.specs.declared.tables.TypeName.{TypeName}
-use Rattle.sml_types.specs.Tree.{Tree, Variable, inst}
+use Rattle.sml_types.specs.Tree.{Tree, Variable}
 use Rattle.sml_types.specs.Forms.{tree}
 use Rattle.sml_types.specs.Poly.{Poly, poly, mono, is_free, IsInstance, Entry, entry, find, close, Context, with_type_names, with_tyvars, with_entries, IsFresh}
 use Rattle.sml_types.specs.Escape.{mentions, AreKnown}
-use Rattle.sml_types.specs.Library.{parts, name_ty, arrow, unit_ty, int_ty, char_ty, string_ty, exn_ty, ref_number, library_names, BeginsWithLibrary, library_exn, primitive_poly, arg_of}
-use Rattle.sml_types.specs.TypeExps.{Labelled, IsRecord, explicit, all_explicit, Means}
+use Rattle.sml_types.specs.Library.{name_ty, arrow, unit_ty, int_ty, char_ty, string_ty, exn_ty, ref_number, library_names, BeginsWithLibrary, library_exn, primitive_poly, arg_of}
+use Rattle.sml_types.specs.TypeExps.{Labelled, IsRecord, all_explicit, Means}
 use Rattle.sml_types.specs.Equality.{IsGreatest}
 use Rattle.sml_types.specs.NonExpansive.{AreNonExpansive}
 
