@@ -1,6 +1,6 @@
 -- Small programs, held against the definition of a typing.
-use Rattle.std.proofs.Common.{◌≡◌, ℕ, zero, suc, ◌<◌, true, false, List, [], ◌∷◌, ◌++◌, Option, Some, None, refl, sym, ap, ◌∙◌, arith, inl, inr, ◌⊎◌, subst}
-use Rattle.std.specs.Prelude.{slice_get, get_or, codes, pos}
+use Rattle.std.proofs.Common.{Bool, ◌≡◌, ℕ, zero, suc, ◌<◌, true, false, List, [], ◌∷◌, Option, Some, None, refl, sym, ap, ◌∙◌, arith, inl, inr, ◌⊎◌, subst}
+use Rattle.std.specs.Prelude.{cond, slice_get, get_or, codes, pos}
 use Rattle.std.specs.List.{AllByRecursion}
 use Rattle.smlc_base.specs.declared.names.Name.{Name}
 use Rattle.sml_tree.specs.declared.bare.Bare.{Bare}
@@ -18,7 +18,7 @@ use Rattle.sml_types.specs.declared.tables.ConRow.{ConRow}
 use Rattle.sml_types.specs.declared.tables.TypeName.{TypeName}
 use Rattle.sml_types.specs.Tree.{Tree, Variable, size}
 use Rattle.sml_types.specs.Forms.{trees, tree}
-use Rattle.sml_types.specs.Poly.{Poly, poly, mono, Entry, entry, find, close, Context, IsInstance}
+use Rattle.sml_types.specs.Poly.{Poly, poly, mono, is_in, Context, IsInstance, scheme_in}
 use Rattle.sml_types.specs.Library.{arrow, unit_ty, library_names, BeginsWithLibrary}
 use Rattle.sml_types.specs.NonExpansive.{AreNonExpansive, is_atomic, is_ref, plain_none, plain_atom, plain_record, plain_applied, plain_typed}
 use Rattle.sml_types.specs.Typing.{Typing, IsTypedNode, IsTyping}
@@ -36,6 +36,13 @@ some_eq x y e = cc
 
 mono_only : (t : Typing) (a b : Tree) → IsInstance t.names (mono a) b → b ≡ a
 mono_only t a b h = h.is ∙ inst_same h.at Variable a (λ v e. h.others v refl) ∙ inst_id a
+
+same_poly : (s : Poly) (vs : List TyVar) (u : Tree) → s.vars ≡ vs → s.body ≡ u → s ≡ poly vs u
+same_poly s vs u e f = ap (λ w. poly w s.body) e ∙ ap (poly vs) f
+
+either_mono : (b : Bool) (s : Poly) (u : Tree) → s ≡ mono u → cond b (mono s.body) s ≡ mono u
+either_mono true s u e = ap (λ w. mono w.body) e
+either_mono false s u e = e
 
 -- ---- val _ = fn x => x x
 
@@ -59,12 +66,12 @@ no_loop a b c d p q r =
 
 -- it has no typing
 pub no_self_application : (t : Typing) → IsTyping self_application t → ⊥
-no_self_application t h = no_loop (t.types 6) (t.types 7) (t.types 4) (t.types 5) (used 6 at6.2 (at5.1.0) at6.1) (used 7 at7.2 at5.2.0 at7.1) (at5.1.1 ∙ ap (λ w. arrow w (t.types 5)) (sym at5.2.1))
+no_self_application t h = no_loop (t.types 6) (t.types 7) (t.types 4) (t.types 5) (used 6 at6.1 at5.1.0) (used 7 at7.1 at5.2.0) (at5.1.1 ∙ ap (λ w. arrow w (t.types 5)) (sym at5.2.1))
   where
     at3 : IsTypedNode self_application t (t.contexts 3) (t.types 3) (t.binds 3) (node.Fn (record { pat = 4; body = 5 } ∷ []))
     at3 = h.rules 3 (node.Fn (record { pat = 4; body = 5 } ∷ [])) (omega arith) refl
 
-    at4 : t.binds 4 ≡ entry 0 (mono (t.types 4)) ∷ []
+    at4 : IsTypedNode self_application t (t.contexts 4) (t.types 4) (t.binds 4) (node.PatVar (name 0))
     at4 = h.rules 4 (node.PatVar (name 0)) (omega arith) refl
 
     at5 : IsTypedNode self_application t (t.contexts 5) (t.types 5) (t.binds 5) (node.App 6 7)
@@ -76,11 +83,11 @@ no_self_application t h = no_loop (t.types 6) (t.types 7) (t.types 4) (t.types 5
     at7 : IsTypedNode self_application t (t.contexts 7) (t.types 7) (t.binds 7) (node.Var (name 0))
     at7 = h.rules 7 (node.Var (name 0)) (omega arith) refl
 
-    found : find 0 (t.contexts 5).entries ≡ Some (mono (t.types 4))
-    found = ap (λ c. find 0 c.entries) at3.3.0.1.0 ∙ ap (λ b. find 0 (b ++ (t.contexts 3).entries)) at4
+    one_type : t.schemes 0 ≡ mono (t.types 4)
+    one_type = let vars : (t.schemes 0).vars ≡ [] = (subst (λ bs. AllByRecursion (λ x. (t.schemes x).vars ≡ []) bs) at4.1 at3.3.0.2).0 in let body = at4.0 in same_poly (t.schemes 0) [] (t.types 4) vars body
 
-    used : (i : ℕ) {s : Poly} → IsInstance t.names s (t.types i) → t.contexts i ≡ t.contexts 5 → find 0 (t.contexts i).entries ≡ Some s → t.types i ≡ t.types 4
-    used i {s = s} is c f = mono_only t (t.types 4) (t.types i) (subst (λ r. IsInstance t.names r (t.types i)) (some_eq s (mono (t.types 4)) (sym f ∙ ap (λ d. find 0 d.entries) c ∙ found)) is)
+    used : (i : ℕ) → IsInstance t.names (scheme_in t.schemes (t.contexts i) 0) (t.types i) → t.contexts i ≡ t.contexts 5 → t.types i ≡ t.types 4
+    used i is c = mono_only t (t.types 4) (t.types i) (subst (λ r. IsInstance t.names r (t.types i)) (either_mono (is_in (t.contexts i).own 0) (t.schemes 0) (t.types 4) one_type) is)
 
 -- ---- val r = ref nil
 
@@ -111,24 +118,18 @@ nothing_general : (t : Typing) → (t.gens 3 ≡ []) ⊎ AreNonExpansive open_ce
 nothing_general t (inl e) = e
 nothing_general t (inr a) = absurd (expansive a)
 
--- its name has no scheme but one of one type alone
+-- its name has one type alone
 pub open_cell_is_mono : (t : Typing) → IsTyping open_cell t → (t.schemes 0).vars ≡ []
-open_cell_is_mono t h = ap (λ s. s.vars) scheme ∙ nothing_general t at1.0.0.2.1
+open_cell_is_mono t h = closed.0 ∙ nothing_general t at1.0.0.2.1
   where
-    at0 : IsTypedNode open_cell t (t.contexts 0) (t.types 0) (t.binds 0) (node.Let 1 6)
-    at0 = h.rules 0 (node.Let 1 6) (omega arith) refl
-
     at1 : IsTypedNode open_cell t (t.contexts 1) (t.types 1) (t.binds 1) (node.Val [] (record { pat = 2; right = 3 } ∷ []))
     at1 = h.rules 1 (node.Val [] (record { pat = 2; right = 3 } ∷ [])) (omega arith) refl
 
-    at2 : t.binds 2 ≡ entry 0 (mono (t.types 2)) ∷ []
+    at2 : IsTypedNode open_cell t (t.contexts 2) (t.types 2) (t.binds 2) (node.PatVar (name 0))
     at2 = h.rules 2 (node.PatVar (name 0)) (omega arith) refl
 
-    bound : t.binds 1 ≡ entry 0 (poly (t.gens 3) (t.types 2)) ∷ []
-    bound = at1.1 ∙ ap (λ bs. close (t.gens 3) bs ++ []) at2
-
-    scheme : t.schemes 0 ≡ poly (t.gens 3) (t.types 2)
-    scheme = (subst (λ bs. AllByRecursion (λ e. t.schemes e.name ≡ e.poly) bs) bound at0.2).0
+    closed : AllByRecursion (λ x. (t.schemes x).vars ≡ t.gens 3) (0 ∷ [])
+    closed = subst (λ bs. AllByRecursion (λ x. (t.schemes x).vars ≡ t.gens 3) bs) at2.1 at1.0.0.3
 
 -- ---- val id = fn x => x
 
@@ -156,8 +157,8 @@ id_ty = arrow a_ty a_ty
 abbrev id_poly : Poly
 id_poly = poly (a_var ∷ []) id_ty
 
-abbrev entries : List Entry → Context
-entries es = record { type_names = library_names; tyvars = []; entries = es }
+abbrev within : List ℕ → Context
+within xs = record { type_names = library_names; tyvars = []; names = xs; own = [] }
 
 abbrev row : List ℕ → List TyVar → Equality → List ConRow → TypeName
 row text params eq cons = record { text = text; params = params; eq = eq; cons = cons }
@@ -194,8 +195,8 @@ abbrev typing : Typing
 typing =
     record {
       types = λ i. get_or (unit_ty ∷ unit_ty ∷ id_ty ∷ id_ty ∷ a_ty ∷ a_ty ∷ unit_ty ∷ []) i unit_ty;
-      contexts = λ i. get_or (entries [] ∷ entries [] ∷ entries [] ∷ entries [] ∷ entries [] ∷ entries (entry 1 (mono a_ty) ∷ []) ∷ entries (entry 0 id_poly ∷ []) ∷ []) i (entries []);
-      binds = λ i. get_or ([] ∷ (entry 0 id_poly ∷ []) ∷ (entry 0 (mono id_ty) ∷ []) ∷ [] ∷ (entry 1 (mono a_ty) ∷ []) ∷ []) i [];
+      contexts = λ i. get_or (within [] ∷ within [] ∷ within [] ∷ within [] ∷ within [] ∷ within (1 ∷ []) ∷ within (0 ∷ []) ∷ []) i (within []);
+      binds = λ i. get_or ([] ∷ (0 ∷ []) ∷ (0 ∷ []) ∷ [] ∷ (1 ∷ []) ∷ []) i [];
       gens = λ i. a_var ∷ [];
       schemes = λ x. get_or (id_poly ∷ mono a_ty ∷ []) x id_poly;
       abbreviations = λ k. id_poly;
@@ -203,21 +204,22 @@ typing =
       names = library_rows;
     }
 
-rule_of : (n m : Node) (c : Context) (u : Tree) (bs : List Entry) → IsTypedNode identity typing c u bs n → Some n ≡ Some m → IsTypedNode identity typing c u bs m
+rule_of : (n m : Node) (c : Context) (u : Tree) (bs : List ℕ) → IsTypedNode identity typing c u bs n → Some n ≡ Some m → IsTypedNode identity typing c u bs m
 rule_of n m c u bs h e = subst (λ k. IsTypedNode identity typing c u bs k) (some_eq n m e) h
 
 fn_plain : AreNonExpansive identity.nodes (3 ∷ [])
 fn_plain = plain_atom 3 (node.Fn (record { pat = 4; body = 5 } ∷ [])) refl refl plain_none
 
 rules : (i : ℕ) (n : Node) → i < 7 → slice_get identity.nodes i ≡ Some n → IsTypedNode identity typing (typing.contexts i) (typing.types i) (typing.binds i) n
-rules zero n l e = rule_of (node.Let 1 6) n (entries []) unit_ty [] (refl, (refl, refl), (refl, tt), refl) e
-rules (suc zero) n l e = rule_of (node.Val [] (record { pat = 2; right = 3 } ∷ [])) n (entries []) unit_ty (entry 0 id_poly ∷ []) (((refl, (refl, refl), (((refl, tt), tt), inr fn_plain)), tt), refl, tt, (refl, tt)) e
-rules (suc (suc zero)) n l e = rule_of (node.PatVar (name 0)) n (entries []) id_ty (entry 0 (mono id_ty) ∷ []) refl e
-rules (suc (suc (suc zero))) n l e = rule_of (node.Fn (record { pat = 4; body = 5 } ∷ [])) n (entries []) id_ty [] (a_ty, a_ty, refl, (((refl, refl), (refl, refl), (refl, tt), (refl, tt)), tt)) e
-rules (suc (suc (suc (suc zero)))) n l e = rule_of (node.PatVar (name 1)) n (entries []) a_ty (entry 1 (mono a_ty) ∷ []) refl e
-rules (suc (suc (suc (suc (suc zero))))) n l e = rule_of (node.Var (name 1)) n (entries (entry 1 (mono a_ty) ∷ [])) a_ty [] (mono a_ty, refl, record { at = Variable; others = λ v h. refl; marks = λ v h m. cc; is = refl }) e
-rules (suc (suc (suc (suc (suc (suc zero)))))) n l e = rule_of node.Finish n (entries (entry 0 id_poly ∷ [])) unit_ty [] refl e
-rules (suc (suc (suc (suc (suc (suc (suc i))))))) n l e = absurd (omega (arith))
+rules zero n l e = rule_of (node.Let 1 6) n (within []) unit_ty [] (refl, (refl, refl), refl) e
+rules (suc zero) n l e =
+    rule_of (node.Val [] (record { pat = 2; right = 3 } ∷ [])) n (within []) unit_ty (0 ∷ []) (((refl, (refl, refl), (((refl, tt), tt), inr fn_plain), (refl, tt)), tt), refl, tt, (refl, tt)) e
+rules (suc (suc zero)) n l e = rule_of (node.PatVar (name 0)) n (within []) id_ty (0 ∷ []) (refl, refl) e
+rules (suc (suc (suc zero))) n l e = rule_of (node.Fn (record { pat = 4; body = 5 } ∷ [])) n (within []) id_ty [] (a_ty, a_ty, refl, (((refl, refl), (refl, refl), (refl, tt), (refl, tt)), tt)) e
+rules (suc (suc (suc (suc zero)))) n l e = rule_of (node.PatVar (name 1)) n (within []) a_ty (1 ∷ []) (refl, refl) e
+rules (suc (suc (suc (suc (suc zero))))) n l e = rule_of (node.Var (name 1)) n (within (1 ∷ [])) a_ty [] (refl, record { at = Variable; others = λ v h. refl; marks = λ v h m. cc; is = refl }) e
+rules (suc (suc (suc (suc (suc (suc zero)))))) n l e = rule_of node.Finish n (within (0 ∷ [])) unit_ty [] refl e
+rules (suc (suc (suc (suc (suc (suc (suc i))))))) n l e = absurd (omega arith)
 
 -- it has a typing in which its name has the scheme of all types 'a -> 'a
 pub identity_is_typed : IsTyping identity typing

@@ -1,5 +1,5 @@
 -- Type schemes, and the context that a phrase stands in.
-use Rattle.std.specs.Prelude.{◌≡◌, ℕ, Bool, true, false, ◌&&◌, not, cond, nat_eq, Option, Some, None, List, [], ◌∷◌, ◌++◌}
+use Rattle.std.specs.Prelude.{◌≡◌, ℕ, Bool, true, false, ◌&&◌, not, cond, nat_eq, List, [], ◌++◌}
 use Rattle.std.specs.List.{list_any, AllByRecursion}
 use Rattle.sml_types.specs.declared.types.TyVar.{TyVar}
 use Rattle.sml_types.specs.declared.tables.TypeName.{TypeName}
@@ -33,39 +33,30 @@ pub record IsInstance (names : List TypeName) (s : Poly) (t : Tree) : Type 0 whe
   pub marks : (v : TyVar) → has_num s.vars v.num ≡ true → v.eq ≡ true → admits names (at v) ≡ true
   pub is : t ≡ inst at s.body
 
--- a name with its scheme
-pub record Entry : Type 0 where
-  pub name : ℕ
-  pub poly : Poly
-
-abbrev pub entry : ℕ → Poly → Entry
-entry x s = record { name = x; poly = s }
-
--- the scheme of a name, the innermost first
-abbrev pub find : ℕ → List Entry → Option Poly
-find x [] = None
-find x (e ∷ entries) = cond (nat_eq x e.name) (Some e.poly) (find x entries)
-
--- the entries, generalised
-abbrev pub close : List TyVar → List Entry → List Entry
-close vs [] = []
-close vs (e ∷ entries) = entry e.name (poly vs e.poly.body) ∷ close vs entries
-
--- what a phrase stands in: the type names that are there, the explicit type variables that are bound, and the names with their schemes
+-- what a phrase stands in: the type names that are there, the explicit type variables that are bound, the names that are bound,
+-- and among these the ones whose recursive declaration it is a part of
 pub record Context : Type 0 where
   pub type_names : List ℕ
   pub tyvars : List ℕ
-  pub entries : List Entry
+  pub names : List ℕ
+  pub own : List ℕ
 
 abbrev pub with_type_names : List ℕ → Context → Context
-with_type_names ns c = record { type_names = ns ++ c.type_names; tyvars = c.tyvars; entries = c.entries }
+with_type_names ns c = record { type_names = ns ++ c.type_names; tyvars = c.tyvars; names = c.names; own = c.own }
 
 abbrev pub with_tyvars : List ℕ → Context → Context
-with_tyvars us c = record { type_names = c.type_names; tyvars = us ++ c.tyvars; entries = c.entries }
+with_tyvars us c = record { type_names = c.type_names; tyvars = us ++ c.tyvars; names = c.names; own = c.own }
 
-abbrev pub with_entries : List Entry → Context → Context
-with_entries es c = record { type_names = c.type_names; tyvars = c.tyvars; entries = es ++ c.entries }
+abbrev pub with_names : List ℕ → Context → Context
+with_names xs c = record { type_names = c.type_names; tyvars = c.tyvars; names = xs ++ c.names; own = c.own }
 
--- the variable of a number stands free nowhere in the context
-abbrev pub IsFresh : Context → ℕ → Type 0
-IsFresh c a = (is_in c.tyvars a ≡ false) × AllByRecursion (λ e. is_free a e.poly ≡ false) c.entries
+abbrev pub with_own : List ℕ → Context → Context
+with_own xs c = record { type_names = c.type_names; tyvars = c.tyvars; names = xs ++ c.names; own = xs ++ c.own }
+
+-- the scheme of a name in a context: a part of a recursive declaration knows its names at one type alone
+abbrev pub scheme_in : (ℕ → Poly) → Context → ℕ → Poly
+scheme_in schemes c x = cond (is_in c.own x) (mono (schemes x).body) (schemes x)
+
+-- the type variable of a number stands free nowhere in the context
+abbrev pub IsFresh : (ℕ → Poly) → Context → ℕ → Type 0
+IsFresh schemes c a = (is_in c.tyvars a ≡ false) × AllByRecursion (λ x. is_free a (scheme_in schemes c x) ≡ false) c.names

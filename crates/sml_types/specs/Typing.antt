@@ -22,7 +22,7 @@ use Rattle.sml_types.specs.declared.tables.ConRow.{ConRow}
 use Rattle.sml_types.specs.declared.tables.TypeName.{TypeName}
 use Rattle.sml_types.specs.Tree.{Tree, Variable}
 use Rattle.sml_types.specs.Forms.{tree}
-use Rattle.sml_types.specs.Poly.{Poly, poly, mono, is_free, IsInstance, Entry, entry, find, close, Context, with_type_names, with_tyvars, with_entries, IsFresh}
+use Rattle.sml_types.specs.Poly.{Poly, poly, mono, is_in, is_free, IsInstance, Context, with_type_names, with_tyvars, with_names, with_own, scheme_in, IsFresh}
 use Rattle.sml_types.specs.Escape.{mentions, AreKnown}
 use Rattle.sml_types.specs.Library.{name_ty, arrow, unit_ty, int_ty, char_ty, string_ty, exn_ty, ref_number, library_names, BeginsWithLibrary, library_exn, primitive_poly, arg_of}
 use Rattle.sml_types.specs.TypeExps.{Labelled, IsRecord, all_explicit, Means}
@@ -35,7 +35,7 @@ use Rattle.sml_types.specs.NonExpansive.{AreNonExpansive}
 pub record Typing : Type 0 where
   pub types : ℕ → Tree
   pub contexts : ℕ → Context
-  pub binds : ℕ → List Entry
+  pub binds : ℕ → List ℕ
   pub gens : ℕ → List TyVar
   pub schemes : ℕ → Poly
   pub abbreviations : ℕ → Poly
@@ -81,6 +81,10 @@ abbrev pub type_numbers : List DatBinding → List ℕ
 type_numbers [] = []
 type_numbers (b ∷ bindings) = b.type_name ∷ type_numbers bindings
 
+abbrev pub group_names : List RecBinding → List ℕ
+group_names [] = []
+group_names (b ∷ bindings) = b.name.0 ∷ group_names bindings
+
 -- the type names that a declaration makes
 abbrev pub made_by : Option Node → List ℕ
 made_by (Some (node.Datatype bindings)) = type_numbers bindings
@@ -102,7 +106,7 @@ module _ (p : Bare) (t : Typing) where
   abbrev pub IsConPoly : Context → Con → Poly → Type 0
   IsConPoly c (con.Data n k takes) s = IsDataPoly n k takes s
   IsConPoly c con.Ref s = IsDataPoly ref_number 0 true s
-  IsConPoly c (con.Exn x takes) s = (find x.0 c.entries ≡ Some s) × IsExnTy takes s.body
+  IsConPoly c (con.Exn x takes) s = (is_in c.names x.0 ≡ true) × (s ≡ t.schemes x.0) × IsExnTy takes s.body
   IsConPoly c (con.Library e) s = s ≡ mono (library_exn e)
 
   -- a constructor at a type
@@ -126,46 +130,37 @@ module _ (p : Bare) (t : Typing) where
   abbrev pub AreFields : List Field → Context → Tree → Type 0
   AreFields fields c ty = AllByRecursion (λ f. t.contexts f.node ≡ c) fields × IsRecord (fields_of fields) ty
 
-  abbrev pub bound_in : List Field → List Entry
+  abbrev pub bound_in : List Field → List ℕ
   bound_in [] = []
   bound_in (f ∷ fields) = t.binds f.node ++ bound_in fields
 
-  -- the names have the schemes that they are bound with
-  abbrev pub AreSchemes : List Entry → Type 0
-  AreSchemes entries = AllByRecursion (λ e. t.schemes e.name ≡ e.poly) entries
+  -- these names generalise these type variables
+  abbrev pub AreClosed : List TyVar → List ℕ → Type 0
+  AreClosed vs xs = AllByRecursion (λ x. (t.schemes x).vars ≡ vs) xs
 
-  -- a match takes a to b: what a pattern binds has one type alone in its rule, and mentions no type name that is not there
+  -- a match takes a to b: what a pattern binds has one type alone, and mentions no type name that is not there
   abbrev pub IsMatch : List Rule → Context → Tree → Tree → Type 0
-  IsMatch rules c a b = AllByRecursion (λ r. Has r.pat c a × Has r.body (with_entries (t.binds r.pat) c) b × AreKnown c.type_names (t.binds r.pat) × AreSchemes (t.binds r.pat)) rules
+  IsMatch rules c a b = AllByRecursion (λ r. Has r.pat c a × Has r.body (with_names (t.binds r.pat) c) b × AreClosed [] (t.binds r.pat) × AreKnown t.schemes c.type_names (t.binds r.pat)) rules
 
   -- ---- Value declarations
 
   -- explicit type variables are new, and stand free in no scheme afterwards
-  abbrev pub AreExplicit : List ℕ → Context → List Entry → Type 0
-  AreExplicit us c entries = AllByRecursion (λ u. IsFresh c u × AllByRecursion (λ e. is_free u e.poly ≡ false) entries) us
+  abbrev pub AreExplicit : List ℕ → Context → List ℕ → Type 0
+  AreExplicit us c xs = AllByRecursion (λ u. IsFresh t.schemes c u × AllByRecursion (λ x. is_free u (t.schemes x) ≡ false) xs) us
 
   -- what a right side generalises stands free nowhere around, and is nothing unless the right side is non-expansive
   abbrev pub IsGeneral : Context → ℕ → Type 0
-  IsGeneral c right = AllByRecursion (λ v. IsFresh c v.num) (t.gens right) × ((t.gens right ≡ []) ⊎ AreNonExpansive p.nodes (right ∷ []))
+  IsGeneral c right = AllByRecursion (λ v. IsFresh t.schemes c v.num) (t.gens right) × ((t.gens right ≡ []) ⊎ AreNonExpansive p.nodes (right ∷ []))
 
   abbrev pub IsBinding : Context → Context → Binding → Type 0
-  IsBinding c inner b = (t.contexts b.pat ≡ inner) × Has b.right inner (t.types b.pat) × IsGeneral c b.right
+  IsBinding c inner b = (t.contexts b.pat ≡ inner) × Has b.right inner (t.types b.pat) × IsGeneral c b.right × AreClosed (t.gens b.right) (t.binds b.pat)
 
-  abbrev pub bound_by : List Binding → List Entry
+  abbrev pub bound_by : List Binding → List ℕ
   bound_by [] = []
-  bound_by (b ∷ bindings) = close (t.gens b.right) (t.binds b.pat) ++ bound_by bindings
-
-  -- the names of a recursive declaration inside it: each has one type alone
-  abbrev pub own_names : List RecBinding → List Entry
-  own_names [] = []
-  own_names (b ∷ bindings) = entry b.name.0 (mono (t.types b.right)) ∷ own_names bindings
-
-  abbrev pub bound_by_rec : List RecBinding → List Entry
-  bound_by_rec [] = []
-  bound_by_rec (b ∷ bindings) = entry b.name.0 (poly (t.gens b.right) (t.types b.right)) ∷ bound_by_rec bindings
+  bound_by (b ∷ bindings) = t.binds b.pat ++ bound_by bindings
 
   abbrev pub IsRecBinding : Context → Context → RecBinding → Type 0
-  IsRecBinding c inner b = (t.contexts b.right ≡ inner) × IsGeneral c b.right
+  IsRecBinding c inner b = (t.contexts b.right ≡ inner) × IsGeneral c b.right × (t.schemes b.name.0 ≡ poly (t.gens b.right) (t.types b.right))
 
   -- ---- Type declarations
 
@@ -197,12 +192,12 @@ module _ (p : Bare) (t : Typing) where
 
   -- ---- The rule of a node: its context, its type, and what it binds
 
-  abbrev pub IsTypedNode : Context → Tree → List Entry → Node → Type 0
+  abbrev pub IsTypedNode : Context → Tree → List ℕ → Node → Type 0
   -- expressions
   IsTypedNode c ty bs (node.Int n) = ty ≡ int_ty
   IsTypedNode c ty bs (node.Char n) = ty ≡ char_ty
   IsTypedNode c ty bs (node.Text n) = ty ≡ string_ty
-  IsTypedNode c ty bs (node.Var x) = (s : Poly) × (find x.0 c.entries ≡ Some s) × IsInstance t.names s ty
+  IsTypedNode c ty bs (node.Var x) = (is_in c.names x.0 ≡ true) × IsInstance t.names (scheme_in t.schemes c x.0) ty
   IsTypedNode c ty bs (node.Constructor k) = HasConTy c k ty
   IsTypedNode c ty bs (node.Builtin f) = IsInstance t.names (primitive_poly f) ty
   IsTypedNode c ty bs (node.Record fields) = AreFields fields c ty
@@ -213,34 +208,34 @@ module _ (p : Bare) (t : Typing) where
   IsTypedNode c ty bs (node.Handle e rules) = Has e c ty × IsMatch rules c exn_ty ty
   IsTypedNode c ty bs (node.Typed e j) = Has e c ty × Written j ty
   -- the type of a let mentions no type name that its declaration makes
-  IsTypedNode c ty bs (node.Let d e) = (t.contexts d ≡ c) × Has e (with_type_names (made_by (slice_get p.nodes d)) (with_entries (t.binds d) c)) ty × AreSchemes (t.binds d) × (mentions c.type_names ty ≡ true)
+  IsTypedNode c ty bs (node.Let d e) = (t.contexts d ≡ c) × Has e (with_type_names (made_by (slice_get p.nodes d)) (with_names (t.binds d) c)) ty × (mentions c.type_names ty ≡ true)
   IsTypedNode c ty bs node.Finish = ty ≡ unit_ty
   -- patterns
   IsTypedNode c ty bs node.Wild = bs ≡ []
   IsTypedNode c ty bs (node.PatInt n) = (ty ≡ int_ty) × (bs ≡ [])
   IsTypedNode c ty bs (node.PatChar n) = (ty ≡ char_ty) × (bs ≡ [])
   IsTypedNode c ty bs (node.PatText n) = (ty ≡ string_ty) × (bs ≡ [])
-  IsTypedNode c ty bs (node.PatVar x) = bs ≡ entry x.0 (mono ty) ∷ []
+  IsTypedNode c ty bs (node.PatVar x) = ((t.schemes x.0).body ≡ ty) × (bs ≡ x.0 ∷ [])
   IsTypedNode c ty bs (node.PatCon k) = HasConTy c k ty × (takes_argument k ≡ false) × (bs ≡ [])
   IsTypedNode c ty bs (node.PatApp k q) = (arg : Tree) × HasConTy c k (arrow arg ty) × (takes_argument k ≡ true) × Has q c arg × (bs ≡ t.binds q)
   IsTypedNode c ty bs (node.PatRecord fields) = AreFields fields c ty × (bs ≡ bound_in fields)
   IsTypedNode c ty bs (node.PatTyped q j) = Has q c ty × Written j ty × (bs ≡ t.binds q)
-  IsTypedNode c ty bs (node.PatAs x q) = Has q c ty × (bs ≡ entry x.0 (mono ty) ∷ t.binds q)
+  IsTypedNode c ty bs (node.PatAs x q) = ((t.schemes x.0).body ≡ ty) × Has q c ty × (bs ≡ x.0 ∷ t.binds q)
   IsTypedNode c ty bs (node.PatAsCon x q) = ⊥
   -- declarations
-  IsTypedNode c ty bs (node.Val us bindings) = AllByRecursion (IsBinding c (with_tyvars us c)) bindings × (bs ≡ bound_by bindings) × AreExplicit us c bs × AreKnown c.type_names bs
-  IsTypedNode c ty bs (node.ValRec us bindings) = AllByRecursion (IsRecBinding c (with_tyvars us (with_entries (own_names bindings) c))) bindings × (bs ≡ bound_by_rec bindings) × AreExplicit us c bs × AreKnown c.type_names bs
+  IsTypedNode c ty bs (node.Val us bindings) = AllByRecursion (IsBinding c (with_tyvars us c)) bindings × (bs ≡ bound_by bindings) × AreExplicit us c bs × AreKnown t.schemes c.type_names bs
+  IsTypedNode c ty bs (node.ValRec us bindings) = AllByRecursion (IsRecBinding c (with_tyvars us (with_own (group_names bindings) c))) bindings × (bs ≡ group_names bindings) × AreExplicit us c bs × AreKnown t.schemes c.type_names bs
   IsTypedNode c ty bs (node.Type bindings) = AllByRecursion IsTypeBinding bindings × (bs ≡ [])
   IsTypedNode c ty bs (node.Datatype bindings) = AllByRecursion IsDatBinding bindings × IsGreatest t.forms t.names (type_numbers bindings) × (bs ≡ [])
-  IsTypedNode c ty bs (node.Exception x arg) = (a : Tree) × IsExnArgument arg a × (bs ≡ entry x.0 (mono a) ∷ [])
-  IsTypedNode c ty bs (node.SameException x k) = (is_exception k ≡ true) × (s : Poly) × IsConPoly c k s × (bs ≡ entry x.0 s ∷ [])
+  IsTypedNode c ty bs (node.Exception x arg) = (a : Tree) × IsExnArgument arg a × (t.schemes x.0 ≡ mono a) × (bs ≡ x.0 ∷ [])
+  IsTypedNode c ty bs (node.SameException x k) = (is_exception k ≡ true) × IsConPoly c k (t.schemes x.0) × (bs ≡ x.0 ∷ [])
   IsTypedNode c ty bs (node.NoException x) = ⊥
 
   -- ---- Programs
 
   -- the context before the first declaration
   abbrev pub start : Context
-  start = record { type_names = library_names; tyvars = []; entries = [] }
+  start = record { type_names = library_names; tyvars = []; names = []; own = [] }
 
   -- a typing of the nodes below a number
   pub record IsTypingBelow (count : ℕ) : Type 0 where
