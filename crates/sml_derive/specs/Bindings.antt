@@ -1,5 +1,5 @@
 -- Type, datatype and exception declarations, and the names of recursive ones.
-use Rattle.std.specs.Prelude.{ℕ, suc, Bool, true, false, if◌then◌else◌, List, [], ◌∷◌, ◌++◌, Option, Some, None, map, reverse, bytes_eq}
+use Rattle.std.specs.Prelude.{ℕ, suc, Bool, true, false, if◌then◌else◌, List, [], ◌∷◌, ◌++◌, Option, Some, None, map, reverse}
 use Rattle.smlc_base.specs.declared.place.Place.{Place}
 use Rattle.smlc_base.specs.declared.refusal.Refusal.{Refusal}
 use Rattle.smlc_base.specs.declared.refusal.Refusal.TheVariants as refusal
@@ -8,12 +8,15 @@ use Rattle.sml_tree.specs.declared.bare.Con.TheVariants as con
 use Rattle.sml_tree.specs.declared.bare.Node.TheVariants as bare
 use Rattle.sml_tree.specs.declared.bare.TypeBinding.{TypeBinding}
 use Rattle.sml_tree.specs.declared.bare.DatBinding.{DatBinding}
-use Rattle.sml_tree.specs.declared.bare.ConBinding.{ConBinding}
 use Rattle.sml_tree.specs.declared.tree_node.TreeNode.TheVariants as node
 use Rattle.sml_prelude.specs.Values.{takes_argument}
-use Rattle.sml_derive.specs.Terms.{Term, leaf, one, two, three, four, place_at}
+use Rattle.sml_derive.specs.declared.meaning.Meaning.{Meaning}
+use Rattle.sml_derive.specs.declared.meaning.Meaning.TheVariants.{Constructor}
+use Rattle.sml_derive.specs.declared.meaning.TypeMeaning.{TypeMeaning}
+use Rattle.sml_derive.specs.declared.meaning.TypeMeaning.TheVariants.{TypeName, Abbreviation}
+use Rattle.sml_derive.specs.Terms.{Term, leaf, one, two, three, place_at}
 use Rattle.sml_derive.specs.Forests.{Forest, none, grown, ◌&◌}
-use Rattle.sml_derive.specs.Scopes.{Scope, Env, nothing, Meaning, variable, constructor, builtin, TypeMeaning, type_name, abbreviation, Ident, ident, meaning_of, within, with_tyvars}
+use Rattle.sml_derive.specs.Scopes.{Scope, Env, nothing, Ident, ident, meaning_of, within, with_tyvars}
 use Rattle.sml_derive.specs.Makings.{Makes, gives, breaks, new_name, new_type_name, new_abbreviation, ◌>>=◌, ◌>>◌}
 use Rattle.sml_derive.specs.Types.{type_of}
 use Rattle.sml_derive.specs.TypeVariables.{tyvars, params, numbers_of}
@@ -42,7 +45,7 @@ type_bindings s (three node.TypBind p vs c t) = let i = ident s.names c in do
   ps ← params (tyvars s.names vs)
   ty ← type_of (with_tyvars s ps) t
   k ← new_abbreviation
-  gives (record { bindings = record { number = k; params = numbers_of ps; ty = ty } ∷ []; idents = i ∷ []; types = (i.text, abbreviation k) ∷ [] })
+  gives (record { bindings = record { number = k; params = numbers_of ps; ty = ty } ∷ []; idents = i ∷ []; types = (i.text, Abbreviation k) ∷ [] })
 type_bindings s (two node.MoreTypBinds p a b) = do
   x ← type_bindings s a
   y ← type_bindings s b
@@ -67,11 +70,11 @@ new_datatypes names (two node.MoreDatBinds p a b) = do
 new_datatypes names _ = gives []
 
 -- a constructor of a datatype, and the type of its argument
-pub record Constructor : Type 0 where
+pub record NewCon : Type 0 where
   pub ident : Ident
   pub arg : Option ℕ
 
-abbrev pub constructors : Scope → Term → Makes (List Constructor)
+abbrev pub constructors : Scope → Term → Makes (List NewCon)
 constructors s (one node.ConBind p v) = gives (record { ident = ident s.names v; arg = None } ∷ [])
 constructors s (two node.ConBindOf p v t) = do
   ty ← type_of s t
@@ -87,20 +90,21 @@ has None = false
 has (Some t) = true
 
 -- what the constructors of the type name k stand for, where the first has number i
-abbrev pub con_meanings : ℕ → ℕ → List Constructor → List (List ℕ × Meaning)
+abbrev pub con_meanings : ℕ → ℕ → List NewCon → List (List ℕ × Meaning)
 con_meanings k i [] = []
-con_meanings k i (c ∷ cons) = (c.ident.text, constructor (con.Data k i (has c.arg))) ∷ con_meanings k (suc i) cons
+con_meanings k i (c ∷ cons) = (c.ident.text, Constructor (con.Data k i (has c.arg))) ∷ con_meanings k (suc i) cons
 
 pub record DatDecs : Type 0 where
   pub bindings : List DatBinding
   pub idents : List Ident
   pub values : List (List ℕ × Meaning)
 
-abbrev pub datatype_of : ℕ → Ident → List (List ℕ × ℕ) → List Constructor → DatDecs
+abbrev pub datatype_of : ℕ → Ident → List (List ℕ × ℕ) → List NewCon → DatDecs
 datatype_of k i ps cons = record {
   bindings = record { type_name = k; text = i.text; params = numbers_of ps; cons = map (λ c. record { text = c.ident.text; arg = c.arg }) cons } ∷ [];
   idents = map (λ c. c.ident) cons;
-  values = reverse (con_meanings k 0 cons) }
+  values = reverse (con_meanings k 0 cons);
+}
 
 -- `datatype` bindings, of which the first has the type name k
 abbrev pub datatypes : Scope → ℕ → Term → Makes DatDecs
@@ -115,7 +119,7 @@ datatypes s k (two node.MoreDatBinds p a b) = do
 datatypes s k _ = gives (record { bindings = []; idents = []; values = [] })
 
 abbrev pub type_env : List (Ident × ℕ) → Env
-type_env news = record { values = []; types = reverse (map (λ n. (n.0.text, type_name n.1)) news) }
+type_env news = record { values = []; types = reverse (map (λ n. (n.0.text, TypeName n.1)) news) }
 
 abbrev pub first_number : List (Ident × ℕ) → ℕ
 first_number [] = 0
@@ -149,7 +153,8 @@ exception_of p i x arg = record {
   forest = grown (bare.Exception (record { 0 = x }) arg) p none;
   shown = true ∷ [];
   idents = i ∷ [];
-  values = (i.text, constructor (con.Exn (record { 0 = x }) (has arg))) ∷ [] }
+  values = (i.text, Constructor (con.Exn (record { 0 = x }) (has arg))) ∷ [];
+}
 
 -- what names no exception constructor can't be renamed, and has no typing
 abbrev pub is_exception : Con → Bool
@@ -158,21 +163,24 @@ is_exception (con.Library e) = true
 is_exception _ = false
 
 abbrev pub renaming_of : Place → Ident → ℕ → Option Meaning → ExDecs
-renaming_of p i x (Some (constructor c)) = if is_exception c then (record {
-    forest = grown (bare.SameException (record { 0 = x }) c) p none;
-    shown = true ∷ [];
-    idents = i ∷ [];
-    values = (i.text, constructor (con.Exn (record { 0 = x }) (takes_argument c))) ∷ [] })
-  else (record {
-    forest = grown (bare.NoException (record { 0 = x })) p none;
-    shown = true ∷ [];
-    idents = i ∷ [];
-    values = (i.text, constructor (con.Exn (record { 0 = x }) false)) ∷ [] })
+renaming_of p i x (Some (Constructor c)) = if is_exception c then (record {
+  forest = grown (bare.SameException (record { 0 = x }) c) p none;
+  shown = true ∷ [];
+  idents = i ∷ [];
+  values = (i.text, Constructor (con.Exn (record { 0 = x }) (takes_argument c))) ∷ [];
+})
+    else (record {
+      forest = grown (bare.NoException (record { 0 = x })) p none;
+      shown = true ∷ [];
+      idents = i ∷ [];
+      values = (i.text, Constructor (con.Exn (record { 0 = x }) false)) ∷ [];
+    })
 renaming_of p i x m = record {
   forest = grown (bare.NoException (record { 0 = x })) p none;
   shown = true ∷ [];
   idents = i ∷ [];
-  values = (i.text, constructor (con.Exn (record { 0 = x }) false)) ∷ [] }
+  values = (i.text, Constructor (con.Exn (record { 0 = x }) false)) ∷ [];
+}
 
 abbrev pub unbound : Option Meaning → Ident → List Refusal
 unbound None i = refusal.Unbound i.place ∷ []
@@ -235,11 +243,11 @@ rec_names s inside (two node.MoreValBinds p a b) = do
   gives (x ++ y)
 rec_names s inside _ = gives []
 
--- the types of a pattern, the outermost first
+-- the types of a pattern, the outermost first; they are numbered in the order of the text
 abbrev pub annotations : Scope → Term → Makes (List ℕ)
 annotations s (two node.TypedPat p a t) = do
-  ty ← type_of s t
   types ← annotations s a
+  ty ← type_of s t
   gives (ty ∷ types)
 annotations s _ = gives []
 

@@ -1,10 +1,9 @@
 -- Clauses of functions, and their heads.
-use Rattle.std.specs.Prelude.{ℕ, ◌+◌, ◌==◌, Bool, true, false, not, if◌then◌else◌, List, [], ◌∷◌, ◌++◌, bytes_eq}
-use Rattle.smlc_base.specs.declared.place.Place.{Place}
+use Rattle.std.specs.Prelude.{ℕ, ◌+◌, ◌==◌, if◌then◌else◌, List, [], ◌∷◌, ◌++◌, bytes_eq}
 use Rattle.smlc_base.specs.declared.refusal.Refusal.{Refusal}
 use Rattle.smlc_base.specs.declared.refusal.Refusal.TheVariants as refusal
 use Rattle.sml_tree.specs.declared.tree_node.TreeNode.TheVariants as node
-use Rattle.sml_derive.specs.Terms.{Term, leaf, one, two, three, four, place_at}
+use Rattle.sml_derive.specs.Terms.{Term, two, three, four, place_at}
 use Rattle.sml_derive.specs.Forests.{Forest, none}
 use Rattle.sml_derive.specs.Scopes.{Scope, Ident, ident}
 use Rattle.sml_derive.specs.Makings.{Makes, gives, breaks, new_names, ◌>>=◌, ◌>>◌}

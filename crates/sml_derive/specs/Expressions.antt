@@ -1,22 +1,23 @@
 -- Expressions, matches and declarations.
-use Rattle.std.specs.Prelude.{ℕ, Bool, true, false, not, if◌then◌else◌, List, [], ◌∷◌, ◌++◌, Option, Some, None, map, codes}
+use Rattle.std.specs.Prelude.{ℕ, Bool, true, false, List, [], ◌∷◌, ◌++◌, Option, Some, None, map, codes}
 use Rattle.smlc_base.specs.declared.place.Place.{Place}
-use Rattle.smlc_base.specs.declared.primitive.Primitive.{Primitive}
 use Rattle.smlc_base.specs.declared.refusal.Refusal.TheVariants as refusal
 use Rattle.sml_tree.specs.declared.bare.Node.TheVariants as bare
 use Rattle.sml_tree.specs.declared.bare.RecBinding.{RecBinding}
 use Rattle.sml_tree.specs.declared.tree_node.TreeNode.TheVariants as node
 use Rattle.sml_prelude.specs.Values.{is_function, takes_argument}
-use Rattle.sml_derive.specs.Terms.{Term, leaf, one, two, three, four, place_at}
+use Rattle.sml_derive.specs.declared.meaning.Meaning.{Meaning}
+use Rattle.sml_derive.specs.declared.meaning.Meaning.TheVariants.{Variable, Constructor, Builtin}
+use Rattle.sml_derive.specs.Terms.{Term, leaf, one, two, three, place_at}
 use Rattle.sml_derive.specs.Forests.{Forest, none, tree, grown, ◌&◌}
-use Rattle.sml_derive.specs.Scopes.{Scope, Env, nothing, followed, Meaning, variable, constructor, builtin, Ident, ident, meaning_of, within}
+use Rattle.sml_derive.specs.Scopes.{Scope, Env, followed, Ident, ident, meaning_of, within}
 use Rattle.sml_derive.specs.Makings.{Makes, gives, breaks, new_name, ◌>>=◌, ◌>>◌}
 use Rattle.sml_derive.specs.Types.{labels, labels_once, type_of}
 use Rattle.sml_derive.specs.TypeVariables.{tyvars, unguarded, opens, in_scope, numbers_of}
 use Rattle.sml_derive.specs.Bare.{con_true, con_false, con_node, variable_node, record_node, tuple_node, apply_node, case_node, fn_node, if_node, sequence_node, list_node, nest, eta_node, while_node, typed_node, tuple_pattern_unless_one}
 use Rattle.sml_derive.specs.Patterns.{Pattern, Bound, patterns, whole, vars_once, env_of}
 use Rattle.sml_derive.specs.Clauses.{arguments, binds_functions, function}
-use Rattle.sml_derive.specs.Bindings.{Decs, no_decs, one_dec, type_dec, datatype_dec, exception_dec, rec_names, annotations, fn_on_the_right}
+use Rattle.sml_derive.specs.Bindings.{Decs, no_decs, type_dec, datatype_dec, exception_dec, rec_names, annotations, fn_on_the_right}
 
 -- where an expression stands: as the function part of an application, perhaps parenthesised, or elsewhere
 pub data Position : Type 0 where
@@ -31,9 +32,9 @@ eta elsewhere p true f = do
 eta _ p _ f = gives f
 
 abbrev pub named : Position → Place → Ident → Option Meaning → Makes Forest
-named h p i (Some (variable x)) = gives (variable_node p x)
-named h p i (Some (constructor c)) = eta h p (takes_argument c) (con_node p c)
-named h p i (Some (builtin b)) = eta h p (is_function b) (grown (bare.Builtin b) p none)
+named h p i (Some (Variable x)) = gives (variable_node p x.0)
+named h p i (Some (Constructor c)) = eta h p (takes_argument c) (con_node p c)
+named h p i (Some (Builtin b)) = eta h p (is_function b) (grown (bare.Builtin b) p none)
 named h p i None = do
   breaks (refusal.Unbound i.place ∷ [])
   gives none

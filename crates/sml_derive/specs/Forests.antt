@@ -14,7 +14,6 @@ pub data Forest : Type 0 where
   tree : Node → Place → Forest → Forest → Forest
 
 infixr 30 ◌&◌
-
 abbrev pub ◌&◌ : Forest → Forest → Forest
 none & g = g
 (tree n p parts rest) & g = tree n p parts (rest & g)

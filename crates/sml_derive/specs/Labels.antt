@@ -1,5 +1,5 @@
 -- Labels of records, and names that stand twice.
-use Rattle.std.specs.Prelude.{ℕ, suc, pos, Bool, true, false, not, ◌&&◌, ◌||◌, if◌then◌else◌, List, [], ◌∷◌, ◌++◌, map, count_by, nat_lt, nat_eq, int_lt, bytes_eq}
+use Rattle.std.specs.Prelude.{ℕ, suc, pos, Bool, true, false, not, ◌&&◌, ◌||◌, if◌then◌else◌, List, [], ◌∷◌, ◌++◌, count_by, nat_lt, nat_eq, int_lt}
 use Rattle.std.specs.List.{list_any}
 use Rattle.smlc_base.specs.declared.place.Place.{Place}
 use Rattle.smlc_base.specs.declared.refusal.Refusal.{Refusal}

@@ -1,5 +1,5 @@
 -- What an expansion makes beside nodes, and the steps that make it.
-use Rattle.std.specs.Prelude.{ℕ, suc, zero, ◌+◌, ◌==◌, ◌&&◌, Bool, true, false, List, [], ◌∷◌, ◌++◌, length, slice_index, if◌then◌else◌}
+use Rattle.std.specs.Prelude.{ℕ, suc, zero, ◌==◌, ◌&&◌, Bool, List, [], ◌∷◌, ◌++◌, length, slice_index}
 use Rattle.smlc_base.specs.declared.refusal.Refusal.{Refusal}
 use Rattle.sml_tree.specs.declared.bare.TypeExp.{TypeExp}
 

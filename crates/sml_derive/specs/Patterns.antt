@@ -1,15 +1,16 @@
 -- Patterns.
-use Rattle.std.specs.Prelude.{ℕ, Bool, true, false, ◌&&◌, if◌then◌else◌, List, [], ◌∷◌, ◌++◌, Option, Some, None, map, reverse, is_some, bytes_eq}
+use Rattle.std.specs.Prelude.{ℕ, ◌&&◌, if◌then◌else◌, List, [], ◌∷◌, ◌++◌, Option, Some, None, map, reverse, is_some, bytes_eq}
 use Rattle.smlc_base.specs.declared.place.Place.{Place}
 use Rattle.smlc_base.specs.declared.refusal.Refusal.{Refusal}
 use Rattle.smlc_base.specs.declared.refusal.Refusal.TheVariants as refusal
-use Rattle.sml_tree.specs.declared.bare.Con.{Con}
 use Rattle.sml_tree.specs.declared.tree_node.TreeNode.TheVariants as node
 use Rattle.sml_tree.specs.declared.bare.Node.TheVariants as bare
-use Rattle.sml_derive.specs.Terms.{Term, leaf, one, two, three, four, place_at}
+use Rattle.sml_derive.specs.declared.meaning.Meaning.{Meaning}
+use Rattle.sml_derive.specs.declared.meaning.Meaning.TheVariants.{Variable, Constructor}
+use Rattle.sml_derive.specs.Terms.{Term, leaf, one, two, three}
 use Rattle.sml_derive.specs.Forests.{Forest, none, grown, ◌&◌}
 use Rattle.sml_derive.specs.Labels.{doubles}
-use Rattle.sml_derive.specs.Scopes.{Scope, Env, Meaning, variable, constructor, Ident, ident, meaning_of, is_fixed, within}
+use Rattle.sml_derive.specs.Scopes.{Scope, Env, Ident, ident, meaning_of, is_fixed}
 use Rattle.sml_derive.specs.Makings.{Makes, gives, breaks, new_name, ◌>>=◌, ◌>>◌}
 use Rattle.sml_derive.specs.Types.{labels, labels_once, type_of}
 use Rattle.sml_derive.specs.Bare.{wild_node, var_pattern, con_pattern, apply_pattern, record_pattern, tuple_pattern, list_pattern}
@@ -45,7 +46,7 @@ abbrev pub vars_once : List Bound → Makes (Unit {0})
 vars_once vars = idents_once (map (λ v. v.ident) vars)
 
 abbrev pub env_of : List Bound → Env
-env_of vars = record { values = reverse (map (λ v. (v.ident.text, variable v.name)) vars); types = [] }
+env_of vars = record { values = reverse (map (λ v. (v.ident.text, Variable (record { 0 = v.name }))) vars); types = [] }
 
 -- a new variable
 abbrev pub binds : Ident → Makes Bound
@@ -61,7 +62,7 @@ no_long (Some m) i = refusal.BadBinding i.place
 
 -- an identifier alone: a constructor, or a variable
 abbrev pub identifier : Place → Ident → Option Meaning → Makes Pattern
-identifier p i (Some (constructor c)) = gives (plain (con_pattern p c))
+identifier p i (Some (Constructor c)) = gives (plain (con_pattern p c))
 identifier p i m =
     if i.long then (do
       breaks (no_long m i ∷ [])
@@ -75,14 +76,14 @@ abbrev pub no_constructor : Option Meaning → Ident → Refusal
 no_constructor m i = if i.long && is_some m then refusal.BadBinding i.place else refusal.Unbound i.place
 
 abbrev pub applied : Place → Ident → Option Meaning → Pattern → Makes Pattern
-applied p i (Some (constructor c)) q = gives (under (apply_pattern p c) q)
+applied p i (Some (Constructor c)) q = gives (under (apply_pattern p c) q)
 applied p i m q = do
   breaks (no_constructor m i ∷ [])
   gives (under (λ f. wild_node p) q)
 
 -- `vid as q` where `vid` is a constructor has no typing
 abbrev pub layer : Place → ℕ → Option Meaning → Forest → Forest
-layer p x (Some (constructor c)) q = grown (bare.PatAsCon (record { 0 = x }) 0) p q
+layer p x (Some (Constructor c)) q = grown (bare.PatAsCon (record { 0 = x }) 0) p q
 layer p x m q = grown (bare.PatAs (record { 0 = x }) 0) p q
 
 abbrev pub typed : Place → ℕ → Forest → Forest

@@ -1,17 +1,15 @@
 -- Programs.
-use Rattle.std.specs.Prelude.{◌≡◌, ℕ, suc, ◌+◌, ◌<◌, Bool, true, false, ◌||◌, ◌&&◌, nat_lt, nat_eq, if◌then◌else◌, List, [], ◌∷◌, ◌++◌, Option, Some, None}
+use Rattle.std.specs.Prelude.{ℕ, suc, ◌+◌, Bool, true, false, ◌||◌, ◌&&◌, nat_lt, nat_eq, if◌then◌else◌, List, [], ◌∷◌, ◌++◌, Option, Some, None}
 use Rattle.smlc_base.specs.declared.place.Place.{Place}
 use Rattle.smlc_base.specs.declared.refusal.Refusal.{Refusal}
 use Rattle.smlc_base.specs.Refusals.{number_of, place_of}
 use Rattle.sml_tree.specs.declared.bare.Node.{Node}
 use Rattle.sml_tree.specs.declared.bare.Node.TheVariants as bare
-use Rattle.sml_tree.specs.declared.bare.TypeExp.{TypeExp}
 use Rattle.sml_derive.specs.Terms.{Term, place_at}
-use Rattle.sml_derive.specs.Forests.{Forest, none, tree, grown, size, ◌&◌, numbered, places}
+use Rattle.sml_derive.specs.Forests.{Forest, none, tree, grown, size, numbered, places}
 use Rattle.sml_derive.specs.Scopes.{Scope, nothing, within}
-use Rattle.sml_derive.specs.Makings.{Made, nothing_made, Makes, gives, ◌>>=◌, ◌>>◌}
+use Rattle.sml_derive.specs.Makings.{Made, nothing_made, Makes, gives, ◌>>=◌}
 use Rattle.sml_derive.specs.Bare.{nest}
-use Rattle.sml_derive.specs.Bindings.{Decs}
 use Rattle.sml_derive.specs.Expressions.{decs}
 
 -- a top-level declaration: the place of its first token, its trees, and for each whether its variables are shown
@@ -100,7 +98,8 @@ expansion_of r = record {
   places = places (program (last_place no_place r.0) r.0);
   decs = lets 0 r.0;
   shown = all_shown 0 r.0;
-  made = r.1 }
+  made = r.1;
+}
 
 -- the expansion of the declarations of a program with these names
 abbrev pub expansion : List (List ℕ) → List Term → Expansion

@@ -1,11 +1,8 @@
 -- What identifiers stand for.
-use Rattle.std.specs.Prelude.{ℕ, Bool, true, false, List, [], ◌∷◌, ◌++◌, Option, Some, None, if◌then◌else◌, bytes_eq, slice_get, codes, unwrap_or}
+use Rattle.std.specs.Prelude.{ℕ, Bool, true, false, List, [], ◌∷◌, ◌++◌, Option, Some, None, bytes_eq, slice_get, codes, unwrap_or}
 use Rattle.std.specs.List.{list_any}
 use Rattle.smlc_base.specs.declared.place.Place.{Place}
 use Rattle.smlc_base.specs.declared.names.Name.{Name}
-use Rattle.smlc_base.specs.declared.primitive.Primitive.{Primitive}
-use Rattle.sml_tree.specs.declared.bare.Con.{Con}
-use Rattle.sml_tree.specs.declared.bare.Con.TheVariants as con
 use Rattle.sml_tree.specs.declared.tree_node.TreeNode.TheVariants as leaf
 use Rattle.sml_prelude.specs.declared.values.Value.{Value}
 use Rattle.sml_prelude.specs.declared.values.Value.TheVariants as base
@@ -15,20 +12,12 @@ use Rattle.sml_prelude.specs.Entries.{first_of}
 use Rattle.sml_prelude.specs.Values.{value_of}
 use Rattle.sml_prelude.specs.Types.{type_of}
 use Rattle.sml_prelude.specs.Long.{short_of}
+use Rattle.sml_derive.specs.declared.meaning.Meaning.{Meaning}
+use Rattle.sml_derive.specs.declared.meaning.Meaning.TheVariants.{Constructor, Builtin}
+use Rattle.sml_derive.specs.declared.meaning.TypeMeaning.{TypeMeaning}
+use Rattle.sml_derive.specs.declared.meaning.TypeMeaning.TheVariants.{TypeName, EmptyRecord}
 use Rattle.sml_derive.specs.Terms as term
 use Rattle.sml_derive.specs.Terms.{Term, place_at}
-
--- what a value identifier stands for
-pub data Meaning : Type 0 where
-  variable : ℕ → Meaning
-  constructor : Con → Meaning
-  builtin : Primitive → Meaning
-
--- what a type constructor stands for: a type name or a `type` binding, by its number, or the empty record
-pub data TypeMeaning : Type 0 where
-  type_name : ℕ → TypeMeaning
-  abbreviation : ℕ → TypeMeaning
-  empty_record : TypeMeaning
 
 -- What declarations bind, the latest first.
 pub record Env : Type 0 where
@@ -57,13 +46,13 @@ with_tyvars s tyvars = record s { tyvars = tyvars }
 -- what stands in scope before every program
 abbrev pub base_meaning : Option Value → Option Meaning
 base_meaning None = None
-base_meaning (Some (base.Constructor c)) = Some (constructor c)
-base_meaning (Some (base.Builtin p)) = Some (builtin p)
+base_meaning (Some (base.Constructor c)) = Some (Constructor c)
+base_meaning (Some (base.Builtin p)) = Some (Builtin p)
 
 abbrev pub base_type_meaning : Option BaseType → Option TypeMeaning
 base_type_meaning None = None
-base_type_meaning (Some (base_type.Named n)) = Some (type_name n)
-base_type_meaning (Some base_type.Unit) = Some empty_record
+base_type_meaning (Some (base_type.Named n)) = Some (TypeName n)
+base_type_meaning (Some base_type.Unit) = Some EmptyRecord
 
 abbrev pub or_else : {A : Type 0} → Option A → Option A → Option A
 or_else None o = o

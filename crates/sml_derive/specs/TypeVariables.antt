@@ -1,13 +1,12 @@
 -- The type variables that declarations bind.
-use Rattle.std.specs.Prelude.{ℕ, Bool, true, false, not, ◌||◌, if◌then◌else◌, List, [], ◌∷◌, ◌++◌, map, filter, bytes_eq, is_some, flat_map}
+use Rattle.std.specs.Prelude.{ℕ, Bool, if◌then◌else◌, List, [], ◌∷◌, ◌++◌, map, filter, bytes_eq, is_some}
 use Rattle.std.specs.List.{list_any}
-use Rattle.smlc_base.specs.declared.place.Place.{Place}
 use Rattle.smlc_base.specs.declared.refusal.Refusal.TheVariants as refusal
 use Rattle.sml_tree.specs.declared.tree_node.TreeNode.TheVariants as node
 use Rattle.sml_prelude.specs.Entries.{first_of}
 use Rattle.sml_derive.specs.Terms.{Term, leaf, one, two, three, four}
 use Rattle.sml_derive.specs.Scopes.{Scope, Ident, ident, text_of, with_tyvars}
-use Rattle.sml_derive.specs.Makings.{Makes, gives, breaks, new_tyvars, ◌>>=◌, ◌>>◌}
+use Rattle.sml_derive.specs.Makings.{Makes, breaks, new_tyvars, ◌>>◌}
 use Rattle.sml_derive.specs.Patterns.{idents_once}
 
 -- a sequence of type variables

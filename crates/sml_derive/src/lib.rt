@@ -2,3 +2,7 @@
 //!
 //! It stands on `sml_prelude`, `sml_tree` and `smlc_base`.
 #![tactic(auto)]
+
+pub mod meaning;
+
+pub use meaning::{Meaning, TypeMeaning};
