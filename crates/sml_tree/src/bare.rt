@@ -92,6 +92,8 @@ pub enum TypeExp {
     Named(u32, Row<u32>),
     /// The type constructor of the `type` binding of a number, at its arguments.
     Abbreviation(u32, Row<u32>),
+    /// `unit` at arguments. It takes none, so no typing exists.
+    UnitOf(Row<u32>),
 }
 
 /// A binding of a `type` declaration: its number, the numbers of its type variables, and its type.
