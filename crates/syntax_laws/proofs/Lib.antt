@@ -7,3 +7,9 @@ pub mod HeadsAccepted
 pub mod ExpressionSteps
 pub mod DecSteps
 pub mod ProgramsAccepted
+pub mod Lawful
+pub mod Kept
+pub mod Taken
+pub mod Completed
+pub mod Grouped
+pub mod Derived

@@ -1,5 +1,5 @@
 -- The machine on its way: the configurations that it comes to, and what it has read.
-use Rattle.std.specs.Prelude.{◌≡◌, ℕ, ◌+◌, ◌++◌, Bool, true, false, cond, List, [], ◌∷◌}
+use Rattle.std.specs.Prelude.{◌≡◌, ℕ, ◌++◌, Bool, true, false, List, [], ◌∷◌}
 use Rattle.sml_syntax.specs.declared.forms.Terminal.{Terminal}
 use Rattle.sml_syntax.specs.declared.forms.Made.{Made}
 use Rattle.sml_syntax.specs.declared.symbol.Symbol.{Symbol}
@@ -8,7 +8,7 @@ use Rattle.sml_syntax.specs.declared.symbol.Push.{Push}
 use Rattle.sml_syntax.specs.declared.symbol.Move.TheVariants.{Skip, Eat}
 use Rattle.sml_syntax.specs.Fixity.{Fix}
 use Rattle.sml_syntax.specs.Machine.{Accepts, after, has_infix, moves, pushed, start}
-use Rattle.syntax_laws.specs.Traits.{needs, nothing, passes, stands, traits}
+use Rattle.syntax_laws.specs.Traits.{needs, nothing, reached, stands, traits}
 
 -- a stack, the first symbol on top, and the directives in force
 pub record Config : Type 0 where
@@ -25,7 +25,7 @@ Good c = (stands c.stack nothing false ≡ true) × (needs c.stack ≡ true → 
 -- how far a stack can go without a terminal
 abbrev pub lead : List Symbol → ℕ
 lead [] = 0
-lead (s ∷ k) = (traits s).weight + cond (passes s) (lead k) 0
+lead (s ∷ k) = reached (traits s).reach (lead k)
 
 -- The machine, started under f, has read the first terminals, and come to a stack under a fixity. What is left to read follows, and the nodes that it has made.
 pub data Comes (v : Bool) (f : Fix) : List Terminal → List Symbol → Fix → List Terminal → List Made → Type 0 where

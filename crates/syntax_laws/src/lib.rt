@@ -1,6 +1,7 @@
 //! Laws on the grammar and the machine that reads it.
 //!
 //! It stands on `sml_syntax` and `sml_tree`. Its main contract: `programs_are_accepted`, by which the machine accepts each program of the grammar, with its nodes and where each begins.
+//! Where the machine refuses a terminal, `refused_begins` says that those before it begin a list that is accepted, and that with it they begin none; `skips_fall` says that it never goes round for ever.
 #![tactic(auto)]
 
 ghost use Rattle.std.specs.Prelude.{◌≡◌, ◌++◌, ◌<◌, Bool, true, false, List, [], ◌∷◌};
