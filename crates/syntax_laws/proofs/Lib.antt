@@ -15,3 +15,9 @@ pub mod HeadsSound
 pub mod ExpressionsSound
 pub mod DecsSound
 pub mod ProgramsSound
+pub mod Lawful
+pub mod Kept
+pub mod Taken
+pub mod Completed
+pub mod Grouped
+pub mod Derived
