@@ -4,6 +4,9 @@
 #![tactic(auto)]
 
 pub mod bare;
+pub mod free;
+pub mod points;
+mod sets;
 pub mod status;
 pub mod tree_node;
 
