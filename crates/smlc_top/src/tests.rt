@@ -219,14 +219,14 @@ fn executed(alloc: Global, bytes: &[u8], err: &mut MemSink) -> Result<u8, Fail> 
 /// A number of `width` bytes that is written over a file at `at`, and what `exec` then answers and says.
 #[derive(Clone, Copy)]
 struct Hostile {
-    at: usize,
-    width: usize,
+    at: u32,
+    width: u32,
     value: u64,
     status: u8,
     line: &'static str,
 }
 
-const fn over(at: usize, width: usize, value: u64, status: u8, line: &'static str) -> Hostile {
+const fn over(at: u32, width: u32, value: u64, status: u8, line: &'static str) -> Hostile {
     Hostile {
         at,
         width,
@@ -241,8 +241,8 @@ fn changed(alloc: Global, file: &[u8], case: &Hostile) -> Result<Vec<u8>, Fail> 
     let mut bytes = file.to_vec(alloc)?;
     let number = case.value.to_le_bytes();
     for i in 0..8 {
-        let place = case.at + i;
-        if i < case.width && place < bytes.len() {
+        let place = case.at as usize + i;
+        if i < case.width as usize && place < bytes.len() {
             bytes[place] = number[i];
         }
     }
