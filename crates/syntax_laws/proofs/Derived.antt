@@ -1,5 +1,5 @@
 -- What the start accepts behind what was read is what the configuration accepts that the machine has come to.
-use Rattle.std.proofs.Common.{◌≡◌, ℕ, ◌++◌, append_assoc, Bool, true, false, List, [], ◌∷◌, length, refl, sym, ap, ◌∙◌, subst}
+use Rattle.std.proofs.Common.{◌≡◌, ◌++◌, append_assoc, Bool, true, false, List, [], ◌∷◌, length, refl, sym, subst}
 use Rattle.sml_syntax.specs.declared.forms.Terminal.{Terminal}
 use Rattle.sml_syntax.specs.declared.forms.Made.{Made}
 use Rattle.sml_syntax.specs.declared.symbol.Symbol.{Symbol}

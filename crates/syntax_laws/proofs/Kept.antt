@@ -4,7 +4,6 @@ use Rattle.std.proofs.lemmas.Bool.{and_parts, and_from}
 use Rattle.std.proofs.lemmas.Bool.Decides.{nat_tests}
 use Rattle.sml_syntax.specs.declared.forms.Terminal.{Terminal}
 use Rattle.sml_syntax.specs.declared.forms.Terminal.TheVariants as tok
-use Rattle.sml_syntax.specs.declared.forms.Root.TheVariants as root
 use Rattle.sml_syntax.specs.declared.forms.Look.TheVariants as look
 use Rattle.sml_syntax.specs.declared.symbol.Symbol.{Symbol}
 use Rattle.sml_syntax.specs.declared.symbol.Symbol.TheVariants as sy
@@ -14,9 +13,9 @@ use Rattle.sml_syntax.specs.declared.symbol.Move.{Move}
 use Rattle.sml_syntax.specs.declared.symbol.Move.TheVariants.{Skip, Eat}
 use Rattle.sml_syntax.specs.Fixity.{Fix, looks}
 use Rattle.sml_syntax.specs.Machine.{after, has_infix, move_of, pushed}
-use Rattle.syntax_laws.specs.Traits.{allows, at_equals, at_of, anyhow, Choice, closing, given, gives, holding, is_inside, is_needy, makes_node, needs, next, nothing, Opening, opens, operators, passing, pattern_operators, Reach, reached, reaches, standing, Standing, stands, suits, takes, takes_name, takes_operator, traits, vanishes}
+use Rattle.syntax_laws.specs.Traits.{allows, at_equals, at_of, anyhow, Choice, closing, given, gives, holding, is_inside, is_needy, makes_node, needs, next, nothing, Opening, operators, passing, pattern_operators, Reach, reached, reaches, standing, Standing, stands, suits, traits}
 use Rattle.syntax_laws.specs.Steps.{at, Good, lead}
-use Rattle.syntax_laws.proofs.Lawful.{apart, directs, excused, extent, lawful, lighter, listed, passes, replaces, row, through}
+use Rattle.syntax_laws.proofs.Lawful.{apart, directs, excused, extent, law, lawful, lighter, listed, passes, replaces, through}
 
 -- the move of a symbol where nodes carry the number n
 abbrev pub at_number : Bool → Symbol → Fix → Terminal → ℕ → Move
@@ -199,7 +198,7 @@ last k f h = let (a, b, c) = below_top sy.Eof k nothing false h.0 in bottom k (o
 
 -- what a row of the table says of a move
 pub law_of : (v : Bool) (s : Symbol) (f : Fix) (t : Terminal) (n : ℕ) (w : Move) → at_number v s f t n ≡ w → lawful s (has_infix f) w ≡ true
-law_of v s f t n w e = let P : Move → Type 0 = λ w. lawful s (has_infix f) w ≡ true in subst P e (row v (length f) n (looks f t) s (has_infix f)).0
+law_of v s f t n w e = let P : Move → Type 0 = λ w. lawful s (has_infix f) w ≡ true in subst P e (law v (length f) n (looks f t) s (has_infix f))
 
 pub skip_good : (v : Bool) (s : Symbol) (p : Push) (k : List Symbol) (f : Fix) (t : Terminal) (n : ℕ) → at_number v s f t n ≡ Skip p → Good (at (s ∷ k) f) → Good (at (pushed p k) f) × (lead (pushed p k) < lead (s ∷ k))
 skip_good v s p k f t n e h =
