@@ -1,5 +1,5 @@
 -- Each good configuration has a completion: each symbol is replaced along its shortest one.
-use Rattle.std.proofs.Common.{arith, ◌≡◌, ℕ, zero, suc, ◌++◌, ◌≤◌, ◌<◌, ◌+◌, nat_eq, nat_lt, Bool, true, false, ◌&&◌, ◌||◌, not, Option, Some, None, List, [], ◌∷◌, length, refl, sym, ap, ◌∙◌, subst}
+use Rattle.std.proofs.Common.{arith, ◌≡◌, ℕ, zero, suc, ◌++◌, ◌≤◌, ◌<◌, ◌+◌, nat_lt, Bool, true, false, ◌&&◌, ◌||◌, not, Option, Some, None, List, [], ◌∷◌, length, refl, sym, ap, subst}
 use Rattle.std.proofs.lemmas.Bool.{and_parts, and_from}
 use Rattle.std.proofs.lemmas.Bool.Decides.{nat_tests}
 use Rattle.smlc_base.specs.declared.names.Name.{Name}
@@ -16,11 +16,11 @@ use Rattle.sml_syntax.specs.declared.forms.Look.TheVariants as look
 use Rattle.sml_syntax.specs.declared.symbol.Symbol.{Symbol}
 use Rattle.sml_syntax.specs.declared.symbol.Symbol.TheVariants as sy
 use Rattle.sml_syntax.specs.declared.symbol.Push.{Push}
-use Rattle.sml_syntax.specs.declared.symbol.Push.TheVariants.{P0, P1, P2, P3}
+use Rattle.sml_syntax.specs.declared.symbol.Push.TheVariants.{P1, P2, P3}
 use Rattle.sml_syntax.specs.declared.symbol.Move.{Move}
 use Rattle.sml_syntax.specs.declared.symbol.Move.TheVariants.{Refuse, Mixed, Skip, Eat}
 use Rattle.sml_syntax.specs.Fixity.{Fix, directive_for, looks, name_look}
-use Rattle.sml_syntax.specs.Moves.{at_head_first, at_head_op, at_ty_con, at_vids}
+use Rattle.sml_syntax.specs.Moves.{at_ty_con, at_vids}
 use Rattle.sml_syntax.specs.Machine.{after, has_infix, infix_among, is_infix, move_of, pushed}
 use Rattle.syntax_laws.specs.Traits.{anyhow, at_equals, at_of, Choice, closing, given, gives, is_needy, makes_node, met, needs, next, nobody, nothing, Opening, opening, opens, operators, pattern_operators, reaches, standing, Standing, suits, takes, takes_name, takes_operator, traits, vanishes}
 use Rattle.syntax_laws.specs.Steps.{at, Good}
@@ -69,64 +69,69 @@ abbrev vanishing : Opening → List Symbol → Bool
 vanishing w [] = true
 vanishing w (s ∷ k) = fades w s && vanishing w k
 
+-- the move that completes a symbol leads to symbols that cost less
+abbrev lowers : Symbol → Move → Bool
+lowers s (Skip p) = nat_lt (total (listed p)) (traits s).cost
+lowers s (Eat p) = nat_lt (total (listed p)) (traits s).cost
+lowers s w = false
+
+-- where the terminal isn't taken, the next symbol begins with it
+abbrev led_to : Choice → Move → Choice
+led_to c (Skip p) = first (listed p)
+led_to c w = c
+
+abbrev is_name : Choice → Bool
+is_name (takes (tok.Id x s)) = true
+is_name c = false
+
+-- a symbol that can vanish leaves such symbols, that cost less
+abbrev leaves : Symbol → Move → Bool
+leaves s (Skip p) = vanishing (met (traits s).wants) (listed p) && nat_lt (total (listed p)) (traits s).cost
+leaves s w = false
+
+-- at each terminal that ends a phrase
+abbrev OnEach : (Terminal → Bool) → Type 0
+OnEach q = (q tok.Equals ≡ true) × (q tok.Of ≡ true) × (q tok.In ≡ true) × (q tok.End ≡ true) × (q tok.Then ≡ true) × (q tok.Else ≡ true) × (q tok.Do ≡ true) × (q tok.Arrow ≡ true) × (q tok.Close ≡ true) × (q tok.CloseBracket ≡ true) × (q tok.CloseBrace ≡ true) × (q tok.Finish ≡ true)
+
+on_all : OnEach (λ t. true)
+on_all = (refl, refl, refl, refl, refl, refl, refl, refl, refl, refl, refl, refl)
+
+on_each : (q : Terminal → Bool) → OnEach q → (t : Terminal) → (opening t ≡ anyhow → ⊥) → q t ≡ true
+on_each q h tok.Equals n = h.0
+on_each q h tok.Of n = h.1
+on_each q h tok.In n = h.2
+on_each q h tok.End n = h.3
+on_each q h tok.Then n = h.4
+on_each q h tok.Else n = h.5
+on_each q h tok.Do n = h.6
+on_each q h tok.Arrow n = h.7
+on_each q h tok.Close n = h.8
+on_each q h tok.CloseBracket n = h.9
+on_each q h tok.CloseBrace n = h.10
+on_each q h tok.Finish n = h.11
+on_each q h _ n = absurd (n refl)
+
 module _ (v i : Bool) (k : ℕ) where
-  -- the move that completes a symbol leads to symbols that cost less
-  abbrev Onward : Symbol → Choice → Move → Bool
-  Onward s c (Skip p) = nat_lt (total (listed p)) (traits s).cost
-  Onward s c (Eat p) = nat_lt (total (listed p)) (traits s).cost
-  Onward s c w = false
-
-  -- where the terminal isn't taken, the next symbol begins with it
-  abbrev Follows : Choice → Move → Choice
-  Follows c (Skip p) = first (listed p)
-  Follows c w = c
-
-  abbrev is_name : Choice → Bool
-  is_name (takes (tok.Id x s)) = true
-  is_name c = false
-
   abbrev onward : Symbol → Choice → Bool
-  onward s (takes t) = Onward s (takes t) (move_of v s i k 0 (look.Other t))
+  onward s (takes t) = lowers s (move_of v s i k 0 (look.Other t))
   onward s c = true
 
   abbrev follows : Symbol → Choice → Choice
-  follows s (takes t) = Follows (takes t) (move_of v s i k 0 (look.Other t))
+  follows s (takes t) = led_to (takes t) (move_of v s i k 0 (look.Other t))
   follows s c = c
 
   chosen : (s : Symbol) → (onward s (traits s).choice ≡ true) × (follows s (traits s).choice ≡ (traits s).choice) × (is_name (traits s).choice ≡ false)
   chosen sy.Program = (refl, refl, refl)
   chosen _ = (refl, refl, refl)
 
-  abbrev Gone : Symbol → Move → Bool
-  Gone s (Skip p) = vanishing (met (traits s).wants) (listed p) && nat_lt (total (listed p)) (traits s).cost
-  Gone s w = false
-
   -- a symbol that can vanish vanishes before each terminal that is as good as what it wants
   abbrev gone : Symbol → Terminal → Bool
-  gone s t = not (is_vanishing s) || (not (reaches (met (traits s).wants) (opening t)) || Gone s (move_of v s i k 0 (look.Other t)))
-
-  abbrev OnEach : (Terminal → Bool) → Type 0
-  OnEach q = (q tok.Equals ≡ true) × (q tok.Of ≡ true) × (q tok.In ≡ true) × (q tok.End ≡ true) × (q tok.Then ≡ true) × (q tok.Else ≡ true) × (q tok.Do ≡ true) × (q tok.Arrow ≡ true) × (q tok.Close ≡ true) × (q tok.CloseBracket ≡ true) × (q tok.CloseBrace ≡ true) × (q tok.Finish ≡ true)
+  gone s t = not (is_vanishing s) || (not (reaches (met (traits s).wants) (opening t)) || leaves s (move_of v s i k 0 (look.Other t)))
 
   goes : (s : Symbol) → OnEach (gone s)
-  goes (sy.Ops root.Bare) = (refl, refl, refl, refl, refl, refl, refl, refl, refl, refl, refl, refl)
-  goes (sy.PatOps root.Bare) = (refl, refl, refl, refl, refl, refl, refl, refl, refl, refl, refl, refl)
-  goes _ = (refl, refl, refl, refl, refl, refl, refl, refl, refl, refl, refl, refl)
-
-  on_each : (q : Terminal → Bool) → OnEach q → (t : Terminal) → (opening t ≡ anyhow → ⊥) → q t ≡ true
-  on_each q h tok.Equals n = h.0
-  on_each q h tok.Of n = h.1
-  on_each q h tok.In n = h.2
-  on_each q h tok.End n = h.3
-  on_each q h tok.Then n = h.4
-  on_each q h tok.Else n = h.5
-  on_each q h tok.Do n = h.6
-  on_each q h tok.Arrow n = h.7
-  on_each q h tok.Close n = h.8
-  on_each q h tok.CloseBracket n = h.9
-  on_each q h tok.CloseBrace n = h.10
-  on_each q h tok.Finish n = h.11
-  on_each q h _ n = absurd (n refl)
+  goes (sy.Ops root.Bare) = on_all
+  goes (sy.PatOps root.Bare) = on_all
+  goes _ = on_all
 
 reaches_self : (a : Opening) → reaches a a ≡ true
 reaches_self anyhow = refl
@@ -185,11 +190,11 @@ module _ (v : Bool) (f : Fix) (t : Terminal) (n : opening t ≡ anyhow → ⊥) 
       ((p : Push) → total (listed p) < (traits s).cost → vanishing (opening t) (listed p) ≡ true → Before (pushed p k) a) → Before (s ∷ k) a
   skipped s k a e r w =
       let i = has_infix f in
-      let g = gone_case (is_vanishing s) (reaches (met (traits s).wants) (opening t)) (Gone v i (length f) s (move_of v s i (length f) 0 (look.Other t))) (on_each v i (length f) (gone v i (length f) s) (goes v i (length f) s) t n) e r in
-      let P : Look → Type 0 = λ l. Gone v i (length f) s (move_of v s i (length f) 0 l) ≡ true in
+      let g = gone_case (is_vanishing s) (reaches (met (traits s).wants) (opening t)) (leaves s (move_of v s i (length f) 0 (look.Other t))) (on_each (gone v i (length f) s) (goes v i (length f) s) t n) e r in
+      let P : Look → Type 0 = λ l. leaves s (move_of v s i (length f) 0 l) ≡ true in
       go (at_number v s f t 0) refl (subst P (sym (other_look t f n)) g)
     where
-      go : (x : Move) → at_number v s f t 0 ≡ x → Gone v (has_infix f) (length f) s x ≡ true → Before (s ∷ k) a
+      go : (x : Move) → at_number v s f t 0 ≡ x → leaves s x ≡ true → Before (s ∷ k) a
       go (Skip p) q g = let (b, c) = and_parts (vanishing (met (traits s).wants) (listed p)) (nat_lt (total (listed p)) (traits s).cost) g in keeps 0 q (w p (grind (arith, nat_tests)) (vanishing_on (met (traits s).wants) (opening t) r (listed p) b))
       go (Eat p) q g = cc
       go Refuse q g = cc
@@ -330,17 +335,17 @@ module _ (v : Bool) (n : ℕ) (rec : (l : List Symbol) (g : Fix) → total l ≤
       let (a, b, c) = chosen v i m s in
       let P : Choice → Type 0 = λ c. onward v i m s c ≡ true in
       let Q : Choice → Type 0 = λ c. follows v i m s c ≡ c in
-      let R : Choice → Type 0 = λ c. is_name v i m c ≡ false in
+      let R : Choice → Type 0 = λ c. is_name c ≡ false in
       let e = sym (named_other t (subst R q c)) in
-      let A : Look → Type 0 = λ l. Onward v i m s (takes t) (move_of v s i m 0 l) ≡ true in
-      let B : Look → Type 0 = λ l. Follows v i m (takes t) (move_of v s i m 0 l) ≡ takes t in
+      let A : Look → Type 0 = λ l. lowers s (move_of v s i m 0 l) ≡ true in
+      let B : Look → Type 0 = λ l. led_to (takes t) (move_of v s i m 0 l) ≡ takes t in
       go (at_number v s f t 0) refl (subst A e (subst P q a)) (subst B e (subst Q q b))
     where
-      named_other : (t : Terminal) → is_name v (has_infix f) (length f) (takes t) ≡ false → looks f t ≡ look.Other t
+      named_other : (t : Terminal) → is_name (takes t) ≡ false → looks f t ≡ look.Other t
       named_other (tok.Id x s) e = cc
       named_other _ e = refl
 
-      go : (w : Move) → at_number v s f t 0 ≡ w → Onward v (has_infix f) (length f) s (takes t) w ≡ true → Follows v (has_infix f) (length f) (takes t) w ≡ takes t → Done v (s ∷ k) f
+      go : (w : Move) → at_number v s f t 0 ≡ w → lowers s w ≡ true → led_to (takes t) w ≡ takes t → Done v (s ∷ k) f
       go (Skip p) e o l =
           let (a, g, b, d) = rec (pushed p k) f (cheaper p o) (skip_good v s p k f t 0 e h).0 in
           let F : List Symbol → Type 0 = λ l. first l ≡ takes t in

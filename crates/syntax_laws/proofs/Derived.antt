@@ -1,5 +1,6 @@
 -- What the start accepts behind what was read is what the configuration accepts that the machine has come to.
-use Rattle.std.proofs.Common.{◌≡◌, ℕ, ◌++◌, append_assoc, Bool, true, false, List, [], ◌∷◌, length, refl, sym, ap, ◌∙◌, subst}
+use Rattle.std.proofs.Common.{◌≡◌, ◌++◌, append_assoc, Bool, true, false, List, [], ◌∷◌, length, refl, sym, subst}
+use Rattle.std.proofs.lemmas.List.{append-nil}
 use Rattle.sml_syntax.specs.declared.forms.Terminal.{Terminal}
 use Rattle.sml_syntax.specs.declared.forms.Made.{Made}
 use Rattle.sml_syntax.specs.declared.symbol.Symbol.{Symbol}
@@ -7,7 +8,7 @@ use Rattle.sml_syntax.specs.declared.symbol.Symbol.TheVariants as sy
 use Rattle.sml_syntax.specs.declared.symbol.Move.{Move}
 use Rattle.sml_syntax.specs.declared.symbol.Move.TheVariants.{Refuse, Mixed, Skip, Eat}
 use Rattle.sml_syntax.specs.Fixity.{Fix}
-use Rattle.sml_syntax.specs.Machine.{Accepts, emit, skip, eat, after, pushed, moves, start}
+use Rattle.sml_syntax.specs.Machine.{Accepts, emit, skip, eat, after, pushed, moves, start, done}
 use Rattle.syntax_laws.specs.Steps.{at, begins, Comes, eats, emits, Good, Opens, skips}
 use Rattle.syntax_laws.proofs.Lawful.{bare_move}
 use Rattle.syntax_laws.proofs.Kept.{eat_good, popped, skip_good}
@@ -28,6 +29,12 @@ comes_accepted begins h = h
 comes_accepted {v = v} {f = f} {a = a} {p = p} (emits {m = m} {r = r} {o = o} d) h = let P : List Made → Type 0 = λ o. Accepts v start f (r ++ a) o in subst P (sym (append_assoc o (m ∷ []) p)) (comes_accepted d (emit h))
 comes_accepted (skips e d) h = comes_accepted d (skip e h)
 comes_accepted {v = v} {f = f} {o = o} {p = p} (eats {r = r} {a = a} {t = t} e d) h = let P : List Terminal → Type 0 = λ b. Accepts v start f b (o ++ p) in subst P (sym (append_assoc r (t ∷ []) a)) (comes_accepted d (eat e h))
+
+pub run_accepted : {v : Bool} {f g : Fix} {r : List Terminal} {o : List Made} → Comes v f r [] g [] o → Accepts v start f r o
+run_accepted {v = v} {f = f} {r = r} {o = o} d =
+    let P : List Terminal → Type 0 = λ a. Accepts v start f a (o ++ []) in
+    let Q : List Made → Type 0 = λ o. Accepts v start f r o in
+    subst Q (append-nil o) (subst P (append-nil r) (comes_accepted d done))
 
 -- the same, with another rest behind the next terminal, and whatever numbers the nodes carry
 onward : {v : Bool} {f g : Fix} {r a : List Terminal} {k : List Symbol} {t : Terminal} {o : List Made} (c : List Terminal) → Comes v f r k g (t ∷ a) o → Takes v k g (t ∷ c) → Takes v start f (r ++ t ∷ c)

@@ -1,5 +1,5 @@
 -- Operators of one precedence that associate in different ways: what goes on where they are grouped to the left.
-use Rattle.std.proofs.Common.{arith, ◌≡◌, ℕ, nat_eq, nat_lt, Bool, true, false, ◌&&◌, ◌||◌, not, cond, Option, Some, None, List, [], ◌∷◌, length, refl, sym, ap, ◌∙◌, subst}
+use Rattle.std.proofs.Common.{arith, ◌≡◌, ℕ, nat_eq, nat_lt, Bool, true, false, ◌&&◌, ◌||◌, not, cond, Option, Some, None, List, [], ◌∷◌, refl, sym, subst}
 use Rattle.std.proofs.lemmas.Bool.Decides.{nat_tests}
 use Rattle.sml_tree.specs.declared.tree_node.TreeNode.TheVariants as node
 use Rattle.sml_syntax.specs.declared.forms.Terminal.{Terminal}
@@ -15,13 +15,13 @@ use Rattle.sml_syntax.specs.declared.symbol.Symbol.TheVariants as sy
 use Rattle.sml_syntax.specs.declared.symbol.Push.{Push}
 use Rattle.sml_syntax.specs.declared.symbol.Push.TheVariants.{P0, P5, P6}
 use Rattle.sml_syntax.specs.declared.symbol.Move.{Move}
-use Rattle.sml_syntax.specs.declared.symbol.Move.TheVariants.{Refuse, Mixed, Skip, Eat}
-use Rattle.sml_syntax.specs.Fixity.{Fix, alike, fits, lefts, looks, operates, rights}
-use Rattle.sml_syntax.specs.Moves.{at_operates, at_ops, at_pat_ops, ends_at}
-use Rattle.sml_syntax.specs.Machine.{after, has_infix, move_of, pushed}
-use Rattle.syntax_laws.specs.Traits.{gives, next, nothing, operators, pattern_operators, standing, Standing, suits, traits}
+use Rattle.sml_syntax.specs.declared.symbol.Move.TheVariants.{Mixed, Skip, Eat}
+use Rattle.sml_syntax.specs.Fixity.{Fix, fits, looks, operates}
+use Rattle.sml_syntax.specs.Moves.{at_operates, at_pat_ops, ends_at}
+use Rattle.sml_syntax.specs.Machine.{after, pushed}
+use Rattle.syntax_laws.specs.Traits.{gives, nothing, operators, pattern_operators, standing, Standing, suits, traits}
 use Rattle.syntax_laws.specs.Steps.{at, Good}
-use Rattle.syntax_laws.proofs.Lawful.{lawful, mixes}
+use Rattle.syntax_laws.proofs.Lawful.{mixes}
 use Rattle.syntax_laws.proofs.Kept.{at_number, below_top, eat_good, law_of, popped}
 use Rattle.syntax_laws.proofs.Taken.{keeps, makes, reads, Takes}
 use Rattle.syntax_laws.proofs.Completed.{completed}
@@ -137,13 +137,17 @@ operators_of x f t q = record {
 }
 
 pattern_operators_of : (l : Look) (f : Fix) (t : Terminal) → looks f t ≡ l → (c : Root) (n : ℕ) → at_pat_ops false c n l ≡ Mixed → (m : ℕ) × (r : Bool) × Operators (λ c. sy.PatOps c) pattern_operators m r f t
-pattern_operators_of (look.Operator x s l r) f t q c n i = (l, r, record {
-  something = λ e. cc;
-  inner = λ m s e h. only_pattern_operators e h;
-  under = λ s e h. under_pattern_operators s e h;
-  takes_it = λ c e. (P5 (sy.Emit (made.Lead (node.Vid x) 0)) sy.PatOperand (sy.PatOps (root.Operator l r)) (sy.Emit (made.Inner node.InfixPat)) (sy.PatOps c), rw (q, e) refl);
-  lets_it = λ c e. rw (q, e, ends_there c l r e) refl;
-})
+pattern_operators_of (look.Operator x s l r) f t q c n i = (
+  l,
+  r,
+  record {
+    something = λ e. cc;
+    inner = λ m s e h. only_pattern_operators e h;
+    under = λ s e h. under_pattern_operators s e h;
+    takes_it = λ c e. (P5 (sy.Emit (made.Lead (node.Vid x) 0)) sy.PatOperand (sy.PatOps (root.Operator l r)) (sy.Emit (made.Inner node.InfixPat)) (sy.PatOps c), rw (q, e) refl);
+    lets_it = λ c e. rw (q, e, ends_there c l r e) refl;
+  },
+)
 pattern_operators_of (look.Plain x s) f t q c n i = cc
 pattern_operators_of (look.Other x) f t q c n i = cc
 

@@ -4,7 +4,6 @@ use Rattle.std.proofs.lemmas.Bool.{and_parts, and_from}
 use Rattle.std.proofs.lemmas.Bool.Decides.{nat_tests}
 use Rattle.sml_syntax.specs.declared.forms.Terminal.{Terminal}
 use Rattle.sml_syntax.specs.declared.forms.Terminal.TheVariants as tok
-use Rattle.sml_syntax.specs.declared.forms.Root.TheVariants as root
 use Rattle.sml_syntax.specs.declared.forms.Look.TheVariants as look
 use Rattle.sml_syntax.specs.declared.symbol.Symbol.{Symbol}
 use Rattle.sml_syntax.specs.declared.symbol.Symbol.TheVariants as sy
@@ -14,9 +13,9 @@ use Rattle.sml_syntax.specs.declared.symbol.Move.{Move}
 use Rattle.sml_syntax.specs.declared.symbol.Move.TheVariants.{Skip, Eat}
 use Rattle.sml_syntax.specs.Fixity.{Fix, looks}
 use Rattle.sml_syntax.specs.Machine.{after, has_infix, move_of, pushed}
-use Rattle.syntax_laws.specs.Traits.{allows, at_equals, at_of, anyhow, Choice, closing, given, gives, holding, is_inside, is_needy, makes_node, needs, next, nothing, Opening, opens, operators, passing, pattern_operators, Reach, reached, reaches, standing, Standing, stands, suits, takes, takes_name, takes_operator, traits, vanishes}
+use Rattle.syntax_laws.specs.Traits.{allows, at_equals, at_of, anyhow, Choice, closing, given, gives, holding, is_inside, is_needy, makes_node, needs, next, nothing, Opening, operators, passing, pattern_operators, Reach, reached, reaches, standing, Standing, stands, suits, traits}
 use Rattle.syntax_laws.specs.Steps.{at, Good, lead}
-use Rattle.syntax_laws.proofs.Lawful.{apart, directs, excused, extent, lawful, lighter, listed, passes, replaces, row, through}
+use Rattle.syntax_laws.proofs.Lawful.{apart, directs, excused, extent, law, lawful, lighter, listed, passes, replaces, through}
 
 -- the move of a symbol where nodes carry the number n
 abbrev pub at_number : Bool → Symbol → Fix → Terminal → ℕ → Move
@@ -44,14 +43,23 @@ needs_on : (j k : List Symbol) (m : Bool) → (needs (j ++ k) || m) ≡ (needs j
 needs_on [] k m = refl
 needs_on (s ∷ j) k m = or_on (is_needy s) (needs (j ++ k)) (needs j) m (needs k || m) (needs_on j k m)
 
+-- what a symbol on top has below it
+pub below_top : (s : Symbol) (k : List Symbol) (d : Standing) (m : Bool) → stands (s ∷ k) d m ≡ true → (allows s (standing k d) ≡ true) × ((is_inside s || not (needs k || m)) ≡ true) × (stands k d m ≡ true)
+below_top s k d m h =
+    let p = and_parts (allows s (standing k d)) ((is_inside s || not (needs k || m)) && stands k d m) h in
+    let q = and_parts (is_inside s || not (needs k || m)) (stands k d m) p.1 in
+    (p.0, q.0, q.1)
+
+on_top : (s : Symbol) (k : List Symbol) (d : Standing) (m : Bool) → allows s (standing k d) ≡ true → (is_inside s || not (needs k || m)) ≡ true → stands k d m ≡ true → stands (s ∷ k) d m ≡ true
+on_top s k d m a b c = and_from (allows s (standing k d)) _ a (and_from (is_inside s || not (needs k || m)) (stands k d m) b c)
+
 stands_on : (j k : List Symbol) (d : Standing) (m : Bool) → stands j (standing k d) (needs k || m) ≡ true → stands k d m ≡ true → stands (j ++ k) d m ≡ true
 stands_on [] k d m g h = h
 stands_on (s ∷ j) k d m g h =
-    let p = and_parts (allows s (standing j (standing k d))) ((is_inside s || not (needs j || (needs k || m))) && stands j (standing k d) (needs k || m)) g in
-    let q = and_parts (is_inside s || not (needs j || (needs k || m))) (stands j (standing k d) (needs k || m)) p.1 in
+    let (a, b, c) = below_top s j (standing k d) (needs k || m) g in
     let D : Standing → Type 0 = λ e. allows s e ≡ true in
     let M : Bool → Type 0 = λ b. (is_inside s || not b) ≡ true in
-    and_from (allows s (standing (j ++ k) d)) _ (subst D (sym (standing_on j k d)) p.0) (and_from (is_inside s || not (needs (j ++ k) || m)) _ (subst M (sym (needs_on j k m)) q.0) (stands_on j k d m q.1 h))
+    on_top s (j ++ k) d m (subst D (sym (standing_on j k d)) a) (subst M (sym (needs_on j k m)) b) (stands_on j k d m c h)
 
 -- what wants the first, has it in the second
 abbrev Below : Standing → Standing → Type 0
@@ -74,9 +82,8 @@ less_needy false false m false u h = refl
 stands_below : (j : List Symbol) (d e : Standing) (m n : Bool) → Below d e → (n ≡ true → m ≡ true) → stands j d m ≡ true → stands j e n ≡ true
 stands_below [] d e m n w u h = refl
 stands_below (s ∷ j) d e m n w u h =
-    let p = and_parts (allows s (standing j d)) ((is_inside s || not (needs j || m)) && stands j d m) h in
-    let q = and_parts (is_inside s || not (needs j || m)) (stands j d m) p.1 in
-    and_from (allows s (standing j e)) _ (standing_below j d e w (traits s).wants p.0) (and_from (is_inside s || not (needs j || n)) _ (less_needy (is_inside s) (needs j) m n u q.0) (stands_below j d e m n w u q.1))
+    let (a, b, c) = below_top s j d m h in
+    on_top s j e n (standing_below j d e w (traits s).wants a) (less_needy (is_inside s) (needs j) m n u b) (stands_below j d e m n w u c)
 
 pub reaches_on : (a b c : Opening) → reaches a b ≡ true → reaches b c ≡ true → reaches a c ≡ true
 reaches_on anyhow b c g h = refl
@@ -104,14 +111,7 @@ or_needy : (a b : Bool) → (a || not b) ≡ true → b ≡ true → a ≡ true
 or_needy true b h e = refl
 or_needy false b h e = cc
 
--- what stands on a stack with the symbol on top, stands on what is below it
-pub below_top : (s : Symbol) (k : List Symbol) (d : Standing) (m : Bool) → stands (s ∷ k) d m ≡ true → (allows s (standing k d) ≡ true) × ((is_inside s || not (needs k || m)) ≡ true) × (stands k d m ≡ true)
-below_top s k d m h =
-    let p = and_parts (allows s (standing k d)) ((is_inside s || not (needs k || m)) && stands k d m) h in
-    let q = and_parts (is_inside s || not (needs k || m)) (stands k d m) p.1 in
-    (p.0, q.0, q.1)
-
-pub replaced : (s : Symbol) (j k : List Symbol) (d : Standing) (m : Bool) → replaces s j ≡ true → stands (s ∷ k) d m ≡ true → stands (j ++ k) d m ≡ true
+replaced : (s : Symbol) (j k : List Symbol) (d : Standing) (m : Bool) → replaces s j ≡ true → stands (s ∷ k) d m ≡ true → stands (j ++ k) d m ≡ true
 replaced s j k d m r h =
     let (a, b, c) = below_top s k d m h in
     stands_on j k d m (stands_below j (traits s).wants (standing k d) (is_inside s) (needs k || m) (λ w g. suits_on w (traits s).wants (standing k d) g a) (or_needy (is_inside s) (needs k || m) b) r) c
@@ -130,7 +130,7 @@ falls (passing q) n m false e h = grind (arith, nat_tests)
 falls (holding q) n m true e h = cc
 falls (holding q) n m false e h = grind (arith, nat_tests)
 
-pub lead_falls : (s : Symbol) (p : Push) (k : List Symbol) → lighter s (listed p) ≡ true → lead (pushed p k) < lead (s ∷ k)
+lead_falls : (s : Symbol) (p : Push) (k : List Symbol) → lighter s (listed p) ≡ true → lead (pushed p k) < lead (s ∷ k)
 lead_falls s p k h =
     let j = listed p in
     let (a, b) = and_parts (nat_lt (lead j) (extent (traits s).reach)) (not (through j) || passes (traits s).reach) h in
@@ -159,7 +159,7 @@ same_fix (sy.LocalEnd j m) t f e = cc
 same_fix (sy.LetEnd j) t f e = cc
 same_fix _ t f e = refl
 
-pub good_skip : (s : Symbol) (p : Push) (k : List Symbol) (f : Fix) → replaces s (listed p) ≡ true → excused s (has_infix f) (listed p) ≡ true → Good (at (s ∷ k) f) → Good (at (pushed p k) f)
+good_skip : (s : Symbol) (p : Push) (k : List Symbol) (f : Fix) → replaces s (listed p) ≡ true → excused s (has_infix f) (listed p) ≡ true → Good (at (s ∷ k) f) → Good (at (pushed p k) f)
 good_skip s p k f r x h =
     let P : List Symbol → Type 0 = λ l. Good (at l f) in
     subst P (sym (listed_on p k)) (replaced s (listed p) k nothing false r h.0, λ e. needed (needs (listed p)) (needs k) (is_needy s) (has_infix f) x (needs_both (listed p) k e) h.1)
@@ -170,7 +170,7 @@ calm true y false h g e = cc
 calm false true false h g e = cc
 calm false false false h g e = cc
 
-pub good_eat : (s : Symbol) (p : Push) (k : List Symbol) (f : Fix) (t : Terminal) → replaces s (listed p) ≡ true → excused s (has_infix f) (listed p) ≡ true → apart s (listed p) ≡ true → Good (at (s ∷ k) f) → Good (at (pushed p k) (after s t f))
+good_eat : (s : Symbol) (p : Push) (k : List Symbol) (f : Fix) (t : Terminal) → replaces s (listed p) ≡ true → excused s (has_infix f) (listed p) ≡ true → apart s (listed p) ≡ true → Good (at (s ∷ k) f) → Good (at (pushed p k) (after s t f))
 good_eat s p k f t r x u h = go (directs s) refl
   where
     go : (b : Bool) → directs s ≡ b → Good (at (pushed p k) (after s t f))
@@ -194,12 +194,12 @@ only_nothing : (d : Standing) → suits nothing d ≡ true → d ≡ nothing
 only_nothing nothing h = refl
 only_nothing _ h = cc
 
-pub last : (k : List Symbol) (f : Fix) → Good (at (sy.Eof ∷ k) f) → k ≡ []
+last : (k : List Symbol) (f : Fix) → Good (at (sy.Eof ∷ k) f) → k ≡ []
 last k f h = let (a, b, c) = below_top sy.Eof k nothing false h.0 in bottom k (only_nothing (standing k nothing) a) c
 
 -- what a row of the table says of a move
 pub law_of : (v : Bool) (s : Symbol) (f : Fix) (t : Terminal) (n : ℕ) (w : Move) → at_number v s f t n ≡ w → lawful s (has_infix f) w ≡ true
-law_of v s f t n w e = let P : Move → Type 0 = λ w. lawful s (has_infix f) w ≡ true in subst P e (row v (length f) n (looks f t) s (has_infix f)).0
+law_of v s f t n w e = let P : Move → Type 0 = λ w. lawful s (has_infix f) w ≡ true in subst P e (law v (length f) n (looks f t) s (has_infix f))
 
 pub skip_good : (v : Bool) (s : Symbol) (p : Push) (k : List Symbol) (f : Fix) (t : Terminal) (n : ℕ) → at_number v s f t n ≡ Skip p → Good (at (s ∷ k) f) → Good (at (pushed p k) f) × (lead (pushed p k) < lead (s ∷ k))
 skip_good v s p k f t n e h =

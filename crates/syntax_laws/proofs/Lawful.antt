@@ -1,6 +1,5 @@
 -- What holds of every move of the machine: one walk over all symbols at all terminals.
-use Rattle.std.proofs.Common.{◌≡◌, ℕ, nat_lt, Bool, true, false, ◌&&◌, ◌||◌, not, cond, List, [], ◌∷◌, refl}
-use Rattle.sml_tree.specs.declared.status.Status.TheVariants as status
+use Rattle.std.proofs.Common.{◌≡◌, ℕ, nat_lt, Bool, true, false, ◌&&◌, ◌||◌, not, cond, List, [], ◌∷◌, refl, ap}
 use Rattle.sml_tree.specs.declared.tree_node.TreeNode.TheVariants as node
 use Rattle.sml_syntax.specs.declared.forms.Terminal.TheVariants as tok
 use Rattle.sml_syntax.specs.declared.forms.Shape.TheVariants as shape
@@ -120,87 +119,106 @@ lawful s i Mixed = mixes s
 lawful s i (Skip p) = replaces s (listed p) && (lighter s (listed p) && excused s i (listed p))
 lawful s i (Eat p) = replaces s (listed p) && (excused s i (listed p) && apart s (listed p))
 
--- the first move is lawful, and differs from the second in the numbers alone
-abbrev pub Row : Symbol → Bool → Move → Move → Type 0
-Row s i w x = (lawful s i w ≡ true) × (bare_move w ≡ bare_move x)
+-- whether a move is lawful, and what it says without the numbers
+abbrev Seen : Symbol → Bool → Move → Bool × Move
+Seen s i w = (lawful s i w, bare_move w)
+
+abbrev Passed : Move → Bool × Move
+Passed w = (true, bare_move w)
+
+-- the first move is lawful, and says the same as the second but for the numbers
+abbrev Row : Symbol → Bool → Move → Move → Type 0
+Row s i w x = Seen s i w ≡ Passed x
+
+-- with its argument written out the walk is checked five times as fast
+same : (w : Move) → Passed w ≡ Passed w
+same w = refl
 
 cond_row : (s : Symbol) (i b : Bool) (w x y z : Move) → Row s i w y → Row s i x z → Row s i (cond b w x) (cond b y z)
 cond_row s i true w x y z g h = g
 cond_row s i false w x y z g h = h
 
 module _ (v : Bool) (k n : ℕ) where
-  pub row : (l : Look) (s : Symbol) (i : Bool) → Row s i (move_of v s i k n l) (move_of v (bare s) i k 0 l)
-  row (look.Plain x true) sy.Program i = (refl, refl)
-  row (look.Plain x false) sy.Program i = (refl, refl)
-  row (look.Operator x true q r) sy.Program i = (refl, refl)
-  row (look.Operator x false q r) sy.Program i = (refl, refl)
-  row (look.Other (tok.Id x b)) sy.Program i = (refl, refl)
-  row (look.Other (tok.Long x true)) sy.Program i = (refl, refl)
-  row (look.Other (tok.Long x false)) sy.Program i = (refl, refl)
-  row (look.Other (tok.Int z (shape.Digit d))) sy.Program i = (refl, refl)
-  row (look.Other (tok.Int z shape.Numeral)) sy.Program i = (refl, refl)
-  row (look.Other (tok.Int z shape.Other)) sy.Program i = (refl, refl)
-  row (look.Other (tok.TyVar x)) sy.Program i = (refl, refl)
-  row (look.Other (tok.Char x)) sy.Program i = (refl, refl)
-  row (look.Other (tok.Text x)) sy.Program i = (refl, refl)
-  row (look.Other tok.Val) sy.Program i = (refl, refl)
-  row (look.Other tok.Fun) sy.Program i = (refl, refl)
-  row (look.Other tok.Type) sy.Program i = (refl, refl)
-  row (look.Other tok.Datatype) sy.Program i = (refl, refl)
-  row (look.Other tok.Exception) sy.Program i = (refl, refl)
-  row (look.Other tok.Local) sy.Program i = (refl, refl)
-  row (look.Other tok.In) sy.Program i = (refl, refl)
-  row (look.Other tok.End) sy.Program i = (refl, refl)
-  row (look.Other tok.Infix) sy.Program i = (refl, refl)
-  row (look.Other tok.Infixr) sy.Program i = (refl, refl)
-  row (look.Other tok.Nonfix) sy.Program i = (refl, refl)
-  row (look.Other tok.And) sy.Program i = (refl, refl)
-  row (look.Other tok.Rec) sy.Program i = (refl, refl)
-  row (look.Other tok.Of) sy.Program i = (refl, refl)
-  row (look.Other tok.Op) sy.Program i = (refl, refl)
-  row (look.Other tok.Let) sy.Program i = (refl, refl)
-  row (look.Other tok.Case) sy.Program i = (refl, refl)
-  row (look.Other tok.Fn) sy.Program i = (refl, refl)
-  row (look.Other tok.Raise) sy.Program i = (refl, refl)
-  row (look.Other tok.If) sy.Program i = (refl, refl)
-  row (look.Other tok.Then) sy.Program i = (refl, refl)
-  row (look.Other tok.Else) sy.Program i = (refl, refl)
-  row (look.Other tok.While) sy.Program i = (refl, refl)
-  row (look.Other tok.Do) sy.Program i = (refl, refl)
-  row (look.Other tok.Andalso) sy.Program i = (refl, refl)
-  row (look.Other tok.Orelse) sy.Program i = (refl, refl)
-  row (look.Other tok.Handle) sy.Program i = (refl, refl)
-  row (look.Other tok.As) sy.Program i = (refl, refl)
-  row (look.Other tok.Open) sy.Program i = (refl, refl)
-  row (look.Other tok.Close) sy.Program i = (refl, refl)
-  row (look.Other tok.OpenBracket) sy.Program i = (refl, refl)
-  row (look.Other tok.CloseBracket) sy.Program i = (refl, refl)
-  row (look.Other tok.OpenBrace) sy.Program i = (refl, refl)
-  row (look.Other tok.CloseBrace) sy.Program i = (refl, refl)
-  row (look.Other tok.Comma) sy.Program i = (refl, refl)
-  row (look.Other tok.Colon) sy.Program i = (refl, refl)
-  row (look.Other tok.Semicolon) sy.Program i = (refl, refl)
-  row (look.Other tok.Underscore) sy.Program i = (refl, refl)
-  row (look.Other tok.Bar) sy.Program i = (refl, refl)
-  row (look.Other tok.Equals) sy.Program i = (refl, refl)
-  row (look.Other tok.Arrow) sy.Program i = (refl, refl)
-  row (look.Other tok.To) sy.Program i = (refl, refl)
-  row (look.Other tok.Foreign) sy.Program i = (refl, refl)
-  row (look.Other tok.Finish) sy.Program i = (refl, refl)
-  row (look.Other tok.Open) sy.Head true = (refl, refl)
-  row _ (sy.FunParen p) true = (refl, refl)
-  row _ sy.Head true = (refl, refl)
-  row _ (sy.HeadFirstName true p) i = (refl, refl)
-  row _ (sy.HeadSecondName root.Bare p) i = (refl, refl)
-  row _ (sy.HeadSecondEnd root.Bare p) i = (refl, refl)
-  row (look.Other (tok.Int z (shape.Digit d))) sy.Label i = cond_row sy.Label i (is_label (shape.Digit d)) _ _ _ _ (refl, refl) (refl, refl)
-  row (look.Other (tok.Int z (shape.Digit d))) sy.PatRow i = cond_row sy.PatRow i (is_label (shape.Digit d)) _ _ _ _ (refl, refl) (refl, refl)
-  row (look.Operator x b q r) (sy.Ops root.Bare) i = (refl, refl)
-  row (look.Operator x b q r) (sy.Ops c) i = cond_row (sy.Ops c) i (fits c (root.Operator q r)) _ _ _ _ (refl, refl) (cond_row (sy.Ops c) i (ends_at v c q r) _ _ _ _ (refl, refl) (refl, refl))
-  row (look.Other tok.Equals) (sy.Ops root.Bare) i = (refl, refl)
-  row (look.Other tok.Equals) (sy.Ops c) i = cond_row (sy.Ops c) i (fits c (root.Operator 4 false)) _ _ _ _ (refl, refl) (cond_row (sy.Ops c) i (ends_at v c 4 false) _ _ _ _ (refl, refl) (refl, refl))
-  row _ (sy.Ops root.Bare) i = (refl, refl)
-  row (look.Operator x b q r) (sy.PatOps root.Bare) i = (refl, refl)
-  row (look.Operator x b q r) (sy.PatOps c) i = cond_row (sy.PatOps c) i (fits c (root.Operator q r)) _ _ _ _ (refl, refl) (cond_row (sy.PatOps c) i (ends_at v c q r) _ _ _ _ (refl, refl) (refl, refl))
-  row _ (sy.PatOps root.Bare) i = (refl, refl)
-  row _ _ i = (refl, refl)
+  row : (l : Look) (s : Symbol) (i : Bool) → Row s i (move_of v s i k n l) (move_of v (bare s) i k 0 l)
+  row (look.Plain x true) sy.Program i = refl
+  row (look.Plain x false) sy.Program i = refl
+  row (look.Operator x true q r) sy.Program i = refl
+  row (look.Operator x false q r) sy.Program i = refl
+  row (look.Other (tok.Id x b)) sy.Program i = refl
+  row (look.Other (tok.Long x true)) sy.Program i = refl
+  row (look.Other (tok.Long x false)) sy.Program i = refl
+  row (look.Other (tok.Int z (shape.Digit d))) sy.Program i = refl
+  row (look.Other (tok.Int z shape.Numeral)) sy.Program i = refl
+  row (look.Other (tok.Int z shape.Other)) sy.Program i = refl
+  row (look.Other (tok.TyVar x)) sy.Program i = refl
+  row (look.Other (tok.Char x)) sy.Program i = refl
+  row (look.Other (tok.Text x)) sy.Program i = refl
+  row (look.Other tok.Val) sy.Program i = refl
+  row (look.Other tok.Fun) sy.Program i = refl
+  row (look.Other tok.Type) sy.Program i = refl
+  row (look.Other tok.Datatype) sy.Program i = refl
+  row (look.Other tok.Exception) sy.Program i = refl
+  row (look.Other tok.Local) sy.Program i = refl
+  row (look.Other tok.In) sy.Program i = refl
+  row (look.Other tok.End) sy.Program i = refl
+  row (look.Other tok.Infix) sy.Program i = refl
+  row (look.Other tok.Infixr) sy.Program i = refl
+  row (look.Other tok.Nonfix) sy.Program i = refl
+  row (look.Other tok.And) sy.Program i = refl
+  row (look.Other tok.Rec) sy.Program i = refl
+  row (look.Other tok.Of) sy.Program i = refl
+  row (look.Other tok.Op) sy.Program i = refl
+  row (look.Other tok.Let) sy.Program i = refl
+  row (look.Other tok.Case) sy.Program i = refl
+  row (look.Other tok.Fn) sy.Program i = refl
+  row (look.Other tok.Raise) sy.Program i = refl
+  row (look.Other tok.If) sy.Program i = refl
+  row (look.Other tok.Then) sy.Program i = refl
+  row (look.Other tok.Else) sy.Program i = refl
+  row (look.Other tok.While) sy.Program i = refl
+  row (look.Other tok.Do) sy.Program i = refl
+  row (look.Other tok.Andalso) sy.Program i = refl
+  row (look.Other tok.Orelse) sy.Program i = refl
+  row (look.Other tok.Handle) sy.Program i = refl
+  row (look.Other tok.As) sy.Program i = refl
+  row (look.Other tok.Open) sy.Program i = refl
+  row (look.Other tok.Close) sy.Program i = refl
+  row (look.Other tok.OpenBracket) sy.Program i = refl
+  row (look.Other tok.CloseBracket) sy.Program i = refl
+  row (look.Other tok.OpenBrace) sy.Program i = refl
+  row (look.Other tok.CloseBrace) sy.Program i = refl
+  row (look.Other tok.Comma) sy.Program i = refl
+  row (look.Other tok.Colon) sy.Program i = refl
+  row (look.Other tok.Semicolon) sy.Program i = refl
+  row (look.Other tok.Underscore) sy.Program i = refl
+  row (look.Other tok.Bar) sy.Program i = refl
+  row (look.Other tok.Equals) sy.Program i = refl
+  row (look.Other tok.Arrow) sy.Program i = refl
+  row (look.Other tok.To) sy.Program i = refl
+  row (look.Other tok.Foreign) sy.Program i = refl
+  row (look.Other tok.Finish) sy.Program i = refl
+  row (look.Other tok.Open) sy.Head true = refl
+  row _ (sy.FunParen p) true = refl
+  row _ sy.Head true = refl
+  row _ (sy.HeadFirstName true p) i = refl
+  row _ (sy.HeadSecondName root.Bare p) i = refl
+  row _ (sy.HeadSecondEnd root.Bare p) i = refl
+  row (look.Other (tok.Int z (shape.Digit d))) sy.Label i = cond_row sy.Label i (is_label (shape.Digit d)) _ _ _ _ refl refl
+  row (look.Other (tok.Int z (shape.Digit d))) sy.PatRow i = cond_row sy.PatRow i (is_label (shape.Digit d)) _ _ _ _ refl refl
+  row (look.Operator x b q r) (sy.Ops root.Bare) i = refl
+  row (look.Operator x b q r) (sy.Ops c) i = cond_row (sy.Ops c) i (fits c (root.Operator q r)) _ _ _ _ refl (cond_row (sy.Ops c) i (ends_at v c q r) _ _ _ _ refl refl)
+  row (look.Other tok.Equals) (sy.Ops root.Bare) i = refl
+  row (look.Other tok.Equals) (sy.Ops c) i = cond_row (sy.Ops c) i (fits c (root.Operator 4 false)) _ _ _ _ refl (cond_row (sy.Ops c) i (ends_at v c 4 false) _ _ _ _ refl refl)
+  row _ (sy.Ops root.Bare) i = refl
+  row (look.Operator x b q r) (sy.PatOps root.Bare) i = refl
+  row (look.Operator x b q r) (sy.PatOps c) i = cond_row (sy.PatOps c) i (fits c (root.Operator q r)) _ _ _ _ refl (cond_row (sy.PatOps c) i (ends_at v c q r) _ _ _ _ refl refl)
+  row _ (sy.PatOps root.Bare) i = refl
+  row l s i = same (move_of v (bare s) i k 0 l)
+
+  -- the move of a symbol at a terminal is lawful
+  pub law : (l : Look) (s : Symbol) (i : Bool) → lawful s i (move_of v s i k n l) ≡ true
+  law l s i = ap (λ r. r.0) (row l s i)
+
+  -- it says the same but for the numbers
+  pub numbered : (l : Look) (s : Symbol) (i : Bool) → bare_move (move_of v s i k n l) ≡ bare_move (move_of v (bare s) i k 0 l)
+  numbered l s i = ap (λ r. r.1) (row l s i)

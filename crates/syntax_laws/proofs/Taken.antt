@@ -1,9 +1,7 @@
 -- What the machine accepts with some nodes, whatever numbers they carry.
 use Rattle.std.proofs.Common.{◌≡◌, ℕ, Bool, List, [], ◌∷◌, length, refl, sym, ap, ◌∙◌, subst}
-use Rattle.sml_tree.specs.declared.status.Status.TheVariants as status
 use Rattle.sml_syntax.specs.declared.forms.Terminal.{Terminal}
 use Rattle.sml_syntax.specs.declared.forms.Made.{Made}
-use Rattle.sml_syntax.specs.declared.forms.Look.{Look}
 use Rattle.sml_syntax.specs.declared.symbol.Symbol.{Symbol}
 use Rattle.sml_syntax.specs.declared.symbol.Symbol.TheVariants as sy
 use Rattle.sml_syntax.specs.declared.symbol.Push.{Push}
@@ -11,8 +9,8 @@ use Rattle.sml_syntax.specs.declared.symbol.Push.TheVariants.{P0, P1, P2, P3, P4
 use Rattle.sml_syntax.specs.declared.symbol.Move.{Move}
 use Rattle.sml_syntax.specs.declared.symbol.Move.TheVariants.{Refuse, Mixed, Skip, Eat}
 use Rattle.sml_syntax.specs.Fixity.{Fix, looks}
-use Rattle.sml_syntax.specs.Machine.{Accepts, done, emit, skip, eat, move_of, pushed, after, has_infix}
-use Rattle.syntax_laws.proofs.Lawful.{bare, bare_move, bare_push, row}
+use Rattle.sml_syntax.specs.Machine.{Accepts, done, emit, skip, eat, pushed, after, has_infix}
+use Rattle.syntax_laws.proofs.Lawful.{bare, bare_move, bare_push, numbered}
 use Rattle.syntax_laws.proofs.Kept.{at_number}
 
 -- what a stack accepts, where each node may carry any number
@@ -41,7 +39,7 @@ bares_pushed p q k l e u = bares_of p k ∙ ap (λ p. pushed p (bares k)) e ∙ 
 
 -- symbols that differ in numbers alone have such moves
 pub bare_moves : (v : Bool) (s r : Symbol) (f : Fix) (t : Terminal) (n m : ℕ) → bare s ≡ bare r → bare_move (at_number v s f t n) ≡ bare_move (at_number v r f t m)
-bare_moves v s r f t n m e = (row v (length f) n (looks f t) s (has_infix f)).1 ∙ ap (λ s. bare_move (at_number v s f t 0)) e ∙ sym (row v (length f) m (looks f t) r (has_infix f)).1
+bare_moves v s r f t n m e = numbered v (length f) n (looks f t) s (has_infix f) ∙ ap (λ s. bare_move (at_number v s f t 0)) e ∙ sym (numbered v (length f) m (looks f t) r (has_infix f))
 
 bare_skip : (w : Move) (p : Push) → bare_move w ≡ Skip (bare_push p) → (q : Push) × (w ≡ Skip q) × (bare_push p ≡ bare_push q)
 bare_skip (Skip q) p e = (q, refl, cc)
@@ -80,14 +78,14 @@ accepted {v = v} (keeps {s = r} {p = p} {k = k} {f = f} {t = t} {a = a} n i h) (
     let d : bare s ≡ bare r = cc in
     let (q, j, c) = bare_skip (at_number v s f t (length (t ∷ a))) p (bare_moves v s r f t (length (t ∷ a)) n d ∙ ap bare_move i) in
     let (o, g) = accepted h (pushed q l) (bares_pushed p q k l c cc) in
-    (o, skip j g)
+    (o, skip {o = o} j g)
 accepted (reads n i h) [] e = cc
 accepted {v = v} (reads {s = r} {p = p} {k = k} {f = f} {t = t} {a = a} n i h) (s ∷ l) e =
     let d : bare s ≡ bare r = cc in
     let (q, j, c) = bare_eat (at_number v s f t (length (t ∷ a))) p (bare_moves v s r f t (length (t ∷ a)) n d ∙ ap bare_move i) in
     let (o, g) = accepted h (pushed q l) (bares_pushed p q k l c cc) in
     let P : Fix → Type 0 = λ f. Accepts v (pushed q l) f a o in
-    (o, eat j (subst P (sym (same_after s r t f d)) g))
+    (o, eat {o = o} j (subst P (sym (same_after s r t f d)) g))
 
 pub taken : {v : Bool} {k : List Symbol} {f : Fix} {a : List Terminal} {o : List Made} → Accepts v k f a o → Takes v k f a
 taken done = ends

@@ -60,13 +60,13 @@ suits (next o) pattern_operators = reaches o at_equals
 suits (next o) (next p) = reaches o p
 suits d e = false
 
--- The shortest completion of a symbol: a node is made; or there is none, and the symbol stands for operators or for something else; or it begins with a terminal, with any identifier, or with one that has infix status.
+-- The shortest completion of a symbol: a node; none, where the symbol vanishes, or opens operators and vanishes; or one that begins with a terminal, with any identifier, or with one that has infix status.
 pub data Choice : Type 0 where
   makes_node vanishes takes_name takes_operator : Choice
   opens : Standing → Choice
   takes : Terminal → Choice
 
--- How far a symbol leads without a terminal, and whether it can go without one. The symbols that come in its place before a terminal is taken lead less far.
+-- how far a symbol leads without a terminal, and whether what is below it may come up by then
 pub data Reach : Type 0 where
   passing holding : ℕ → Reach
 
@@ -106,7 +106,7 @@ long = tok.Long nobody true
 abbrev pub type_variable : Terminal
 type_variable = tok.TyVar nobody
 
--- The end is the last symbol, and no other is.
+-- The end is the last symbol, and no other is. What stands in the place of a symbol before a terminal is taken leads less far than the symbol.
 abbrev pub traits : Symbol → Traits
 traits (sy.Emit m) = mark anyhow makes_node 1 (passing 1) inside
 traits sy.Program = mark closing vanishes 1 (passing 2) outside

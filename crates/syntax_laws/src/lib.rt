@@ -74,9 +74,14 @@ pub fn comes_good()
     ensures { (v : Bool) (f g : Fix) (r a : List Terminal) (k : List Symbol) (o : List Made) → Comes v f r k g a o → Good (at k g) }
 {}
 
-/// What the configuration accepts that the machine has come to, the start accepts behind what was read. With `done`, a run to the empty stack accepts what it has read.
+/// What the configuration accepts that the machine has come to, the start accepts behind what was read.
 pub fn comes_accepted()
     ensures { (v : Bool) (f g : Fix) (r a : List Terminal) (k : List Symbol) (o p : List Made) → Comes v f r k g a o → Accepts v k g a p → Accepts v start f (r ++ a) (o ++ p) }
+{}
+
+/// Where the machine has read all and nothing is left on the stack, it accepts what it has read, with the nodes that it has made.
+pub fn runs_accepted()
+    ensures { (v : Bool) (f g : Fix) (r : List Terminal) (o : List Made) → Comes v f r [] g [] o → Accepts v start f r o }
 {}
 
 /// Where the machine refuses a terminal, those before it begin a list that is accepted, and with it they begin none, whichever way operators are grouped.

@@ -1,4 +1,4 @@
-use Rattle.std.proofs.Common.{◌≡◌, List, ◌∷◌, length, subst}
+use Rattle.std.proofs.Common.{◌≡◌, ◌∷◌, length, subst}
 use Rattle.sml_syntax.specs.declared.forms.Terminal.{Terminal}
 use Rattle.sml_syntax.specs.declared.symbol.Move.TheVariants.{Eat}
 use Rattle.syntax_laws.proofs.Kept.{at_number, eat_good, finished}
