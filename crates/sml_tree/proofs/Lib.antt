@@ -5,3 +5,5 @@ pub mod SetLemmas
 pub mod Members
 pub mod Walk
 pub mod SameParts
+pub mod Programs
+mod Worked

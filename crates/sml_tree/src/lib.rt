@@ -9,6 +9,7 @@ pub mod points;
 mod sets;
 pub mod status;
 pub mod tree_node;
+pub mod width;
 
 pub use bare::{Bare, Node};
 pub use status::Status;
