@@ -1,1 +1,2 @@
 mod PlainSteps
+mod LibraryThere
