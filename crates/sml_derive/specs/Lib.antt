@@ -6,8 +6,10 @@ pub mod Forests
 pub mod Labels
 pub mod Makings
 pub mod Patterns
+pub mod Pieces
 pub mod Programs
 pub mod Scopes
+pub mod Starts
 pub mod Terms
 pub mod TypeVariables
 pub mod Types

@@ -4,5 +4,8 @@
 #![tactic(auto)]
 
 pub mod meaning;
+mod number;
+pub mod piece;
+pub mod starts;
 
 pub use meaning::{Meaning, TypeMeaning};
