@@ -7,6 +7,14 @@ pub mod HeadsAccepted
 pub mod ExpressionSteps
 pub mod DecSteps
 pub mod ProgramsAccepted
+pub mod Means
+pub mod IdentifiersSound
+pub mod TypesSound
+pub mod PatternsSound
+pub mod HeadsSound
+pub mod ExpressionsSound
+pub mod DecsSound
+pub mod ProgramsSound
 pub mod Lawful
 pub mod Kept
 pub mod Taken
