@@ -8,10 +8,13 @@ use Rattle.sml_syntax.specs.declared.symbol.Symbol.TheVariants as sy
 use Rattle.sml_syntax.specs.declared.symbol.Move.{Move}
 use Rattle.sml_syntax.specs.declared.symbol.Move.TheVariants.{Refuse, Mixed, Skip, Eat}
 use Rattle.sml_syntax.specs.Fixity.{Fix}
+use Rattle.sml_syntax.specs.Grammar.{Begins}
 use Rattle.sml_syntax.specs.Machine.{Accepts, emit, skip, eat, after, pushed, moves, start, done}
 use Rattle.syntax_laws.specs.Steps.{at, begins, Comes, eats, emits, Good, Opens, skips}
 use Rattle.syntax_laws.proofs.Lawful.{bare_move}
 use Rattle.syntax_laws.proofs.Kept.{eat_good, popped, skip_good}
+use Rattle.syntax_laws.proofs.ProgramsAccepted
+use Rattle.syntax_laws.proofs.ProgramsSound.{sound}
 use Rattle.syntax_laws.proofs.Taken.{accepted, keeps, keeps_back, makes, makes_back, reads, reads_back, Stuck, stuck, taken, Takes}
 use Rattle.syntax_laws.proofs.Completed.{completed}
 use Rattle.syntax_laws.proofs.Grouped.{both, mixed_on}
@@ -94,3 +97,10 @@ empty_stuck h = elim h [ ]
 
 pub finished_stuck : {f g : Fix} {r a : List Terminal} {t : Terminal} {o : List Made} → Comes false f r [] g (t ∷ a) o → Opens false f r × ((v : Bool) → Opens v f (r ++ t ∷ []) → ⊥)
 finished_stuck {f = f} {r = r} {t = t} d = (opens d, λ v (b, o, h). let P : List Terminal → Type 0 = λ b. Takes v start f b in empty_stuck (backward b (both_ways v d) (subst P (append_assoc r (t ∷ []) b) (taken h))))
+
+-- what begins a list that the machine accepts, begins a program
+pub opens_begins : (v : Bool) (f : Fix) (r : List Terminal) → Opens v f r → Begins v f r
+opens_begins v f r (b, o, h) = (b, o, sound h)
+
+pub begins_opens : (v : Bool) (f : Fix) (r : List Terminal) → Begins v f r → Opens v f r
+begins_opens v f r (b, o, h) = (b, o, ProgramsAccepted.accepted v h)

@@ -4,6 +4,7 @@ use Rattle.std.proofs.lemmas.Bool.{and_parts, and_from}
 use Rattle.std.proofs.lemmas.Bool.Decides.{nat_tests}
 use Rattle.sml_syntax.specs.declared.forms.Terminal.{Terminal}
 use Rattle.sml_syntax.specs.declared.forms.Terminal.TheVariants as tok
+use Rattle.sml_syntax.specs.declared.forms.Made.{Made}
 use Rattle.sml_syntax.specs.declared.forms.Look.TheVariants as look
 use Rattle.sml_syntax.specs.declared.symbol.Symbol.{Symbol}
 use Rattle.sml_syntax.specs.declared.symbol.Symbol.TheVariants as sy
@@ -221,11 +222,15 @@ finish_last v (sy.FunParen q) true k n p e = cc
 finish_last v (sy.HeadFirstName true q) i k n p e = cc
 finish_last v _ i k n p e = cc
 
-pub finished : (v : Bool) (s : Symbol) (p : Push) (k : List Symbol) (f : Fix) (n : ℕ) → at_number v s f tok.Finish n ≡ Eat p → Good (at (s ∷ k) f) → pushed p k ≡ []
+finished : (v : Bool) (s : Symbol) (p : Push) (k : List Symbol) (f : Fix) (n : ℕ) → at_number v s f tok.Finish n ≡ Eat p → Good (at (s ∷ k) f) → pushed p k ≡ []
 finished v s p k f n e h =
     let (a, b) = finish_last v s (has_infix f) (length f) n p e in
     let P : Symbol → Type 0 = λ s. Good (at (s ∷ k) f) in
     ap (λ p. pushed p k) b ∙ last k f (subst P a h)
+
+-- the end leaves nothing
+pub end_leaves : (v : Bool) (s : Symbol) (p : Push) (k : List Symbol) (f : Fix) (t : Terminal) (n : ℕ) → at_number v s f t n ≡ Eat p → Good (at (s ∷ k) f) → t ≡ tok.Finish → pushed p k ≡ []
+end_leaves v s p k f t n e h q = let P : Terminal → Type 0 = λ t. at_number v s f t n ≡ Eat p in finished v s p k f n (subst P q e) h
 
 pub or_right : (a b : Bool) → b ≡ true → (a || b) ≡ true
 or_right true b e = refl
@@ -234,3 +239,6 @@ or_right false b e = e
 -- without its top symbol a good configuration is good
 pub popped : (s : Symbol) (k : List Symbol) (f : Fix) → Good (at (s ∷ k) f) → Good (at k f)
 popped s k f h = ((below_top s k nothing false h.0).2, λ e. h.1 (or_right (is_needy s) (needs k) e))
+
+pub emit_good : (m : Made) (k : List Symbol) (f : Fix) → Good (at (sy.Emit m ∷ k) f) → Good (at k f) × (lead k < lead (sy.Emit m ∷ k))
+emit_good m k f h = (popped (sy.Emit m) k f h, omega arith)

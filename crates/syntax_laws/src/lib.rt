@@ -13,7 +13,7 @@ ghost use Rattle.sml_syntax.specs.declared.symbol.Symbol.TheVariants.{Emit, Pat,
 ghost use Rattle.sml_syntax.specs.declared.symbol.Push.{Push};
 ghost use Rattle.sml_syntax.specs.declared.symbol.Move.TheVariants.{Eat, Mixed, Refuse, Skip};
 ghost use Rattle.sml_syntax.specs.Fixity.{Fix};
-ghost use Rattle.sml_syntax.specs.Grammar.{IsPat, IsTy, Parses};
+ghost use Rattle.sml_syntax.specs.Grammar.{Begins, IsPat, IsTy, Parses};
 ghost use Rattle.sml_syntax.specs.Machine.{Accepts, after, moves, pushed, start};
 ghost use Rattle.syntax_laws.specs.Ends.{ends_pat, ends_ty};
 ghost use Rattle.syntax_laws.specs.Laws.{IsAccepted};
@@ -97,4 +97,9 @@ pub fn mixed_begins()
 /// Behind the end nothing goes on.
 pub fn ended_begins()
     ensures { (f g : Fix) (r a : List Terminal) (t : Terminal) (o : List Made) → Comes false f r [] g (t ∷ a) o → Opens false f r × ((v : Bool) → Opens v f (r ++ t ∷ []) → ⊥) }
+{}
+
+/// What begins a list that the machine accepts, begins a program, and the other way round.
+pub fn opens_begins()
+    ensures { (v : Bool) (f : Fix) (r : List Terminal) → (Opens v f r → Begins v f r) × (Begins v f r → Opens v f r) }
 {}
