@@ -4,7 +4,9 @@
 #![tactic(auto)]
 
 pub mod status;
+pub mod tree;
 pub mod tree_node;
 
 pub use status::Status;
+pub use tree::Tree;
 pub use tree_node::TreeNode;
