@@ -7,3 +7,11 @@ pub mod HeadsAccepted
 pub mod ExpressionSteps
 pub mod DecSteps
 pub mod ProgramsAccepted
+pub mod Means
+pub mod IdentifiersSound
+pub mod TypesSound
+pub mod PatternsSound
+pub mod ExpressionsSound
+pub mod HeadsSound
+pub mod DecsSound
+pub mod ProgramsSound

@@ -1,6 +1,6 @@
 //! Laws on the grammar and the machine that reads it.
 //!
-//! It stands on `sml_syntax` and `sml_tree`. Its main contract: `programs_are_accepted`, by which the machine accepts each program of the grammar, with its nodes and where each begins.
+//! It stands on `sml_syntax` and `sml_tree`. Its main contracts: `programs_are_accepted` and `accepted_are_programs`, by which the machine accepts each program of the grammar, with its nodes and where each begins, and nothing else.
 #![tactic(auto)]
 
 ghost use Rattle.std.specs.Prelude.{Bool, List};
@@ -26,4 +26,9 @@ pub fn patterns_are_accepted()
 /// The machine accepts each program of the grammar, with its nodes, whichever way operators of one precedence that associate in different ways are grouped.
 pub fn programs_are_accepted()
     ensures { (v : Bool) (f : Fix) (a : List Terminal) (o : List Made) → Parses v f a o → Accepts v start f a o }
+{}
+
+/// What the machine accepts is a program of the grammar, with its nodes.
+pub fn accepted_are_programs()
+    ensures { (v : Bool) (f : Fix) (a : List Terminal) (o : List Made) → Accepts v start f a o → Parses v f a o }
 {}
