@@ -32,6 +32,13 @@ infixed {v = v} {n = n} {f = f} {b = b} {c = c} {d = d} {q = q} {u = u} {r = r} 
     subst Q (sym x.is_root) (infix_pat x.looks_so refl refl (operand_pat (atpat_operand x.pattern)) (subst P x.is_root h))
 
 module _ (v : Bool) (k : List Symbol) (f : Fix) (a : List Terminal) (o : List Made) where
+  -- the second operand goes on: the parentheses hold a pattern
+  second_on : (e : Root) (i : ℕ) → Means v (sy.PatOps e ∷ sy.Emit (made.Inner node.InfixPat) ∷ sy.PatOps root.Bare ∷ sy.PatTyRest ∷ sy.HeadEnd i ∷ k) f a o → (b : List Terminal) × (p : List Made) × ((c d : List Terminal) (q u : List Made) → First v f e i c q d u → Phrase v IsOperand f d a u o → Phrase v IsHead f (tok.Open ∷ c) b q p) × Means v k f b p
+  second_on e i (b, p, g, z, (r, e1, w)) =
+      let (b2, p2, g2, z2, (b3, p3, j, (b4, p4, m, x))) = w in
+      (b4, p4, (λ c d q u y h. m _ _ y.is_at (j _ _ (infix_pat_typed (g2 _ _ e (infixed y (to_node e1 (g _ _ root.Bare (operand_pat h) (bare_pat v f a)).1)) z).1))), x)
+
+module _ (v : Bool) (k : List Symbol) (f : Fix) (a : List Terminal) (o : List Made) where
   -- heads, by how they begin
   pub keeps_head : {t : Terminal} {l : Look} → Seen f t l → Keeps v sy.Head k f t l a o
   keeps_head (other tok.Open _) = go (has_infix f)
@@ -95,19 +102,7 @@ module _ (v : Bool) (k : List Symbol) (f : Fix) (a : List Terminal) (o : List Ma
   keeps_head_first i (operator {x = x} {s = s} {l = l} {r = r} n) = λ (q, e, (b, p, g, w)). (b, p, (λ c u m j. g _ _ (record { name = x; star = s; level = l; right = r; is_root = refl; is_at = m; looks_so = n; pattern = to_node e j })), w)
   keeps_head_first i _ = λ (b, p, g, (c, q, m, w)). (c, q, (λ d u n j. m _ _ n (g _ _ (infix_pat_typed (operand_pat (atpat_operand j))))), w)
 
-  pub keeps_head_end : (i : ℕ) {t : Terminal} {l : Look} → Seen f t l → Keeps v (sy.HeadEnd i) k f t l a o
-  keeps_head_end i (other tok.Close _) = λ (q, e, (b, p, g, w)). (b, p, (λ c u n j. g _ _ (paren_pat (to_node (led node.PatParen e n) j))), w)
-  keeps_head_end i (other tok.Comma _) = λ (b, p, h, (c, e, (q, e2, (d, r, g, w)))). (d, r, (λ c2 u n j. g _ _ (tuple_pat j (to_node (led node.PatTuple e2 n) (to_token e h)))), w)
-  keeps_head_end i _ = tt
-
-module _ (v : Bool) (k : List Symbol) (f : Fix) (a : List Terminal) (o : List Made) where
-  -- the second operand goes on: the parentheses hold a pattern
-  second_on : (e : Root) (i : ℕ) → Means v (sy.PatOps e ∷ sy.Emit (made.Inner node.InfixPat) ∷ sy.PatOps root.Bare ∷ sy.PatTyRest ∷ sy.HeadEnd i ∷ k) f a o → (b : List Terminal) × (p : List Made) × ((c d : List Terminal) (q u : List Made) → First v f e i c q d u → Phrase v IsOperand f d a u o → Phrase v IsHead f (tok.Open ∷ c) b q p) × Means v k f b p
-  second_on e i (b, p, g, z, (r, e1, w)) =
-      let (b2, p2, g2, z2, (b3, p3, j, (b4, p4, m, x))) = w in
-      (b4, p4, (λ c d q u y h. m _ _ y.is_at (j _ _ (infix_pat_typed (g2 _ _ e (infixed y (to_node e1 (g _ _ root.Bare (operand_pat h) (bare_pat v f a)).1)) z).1))), x)
-
-  -- the second operand
+  -- the second operand in parentheses
   pub keeps_head_second : (e : Root) (i : ℕ) {t : Terminal} {l : Look} → Seen f t l → Keeps v (sy.HeadSecond e i) k f t l a o
   keeps_head_second e i {t = t} {l = l} s = go (is_ident l)
     where
@@ -115,16 +110,6 @@ module _ (v : Bool) (k : List Symbol) (f : Fix) (a : List Terminal) (o : List Ma
       go true = λ (b, p, h, (c, q, g, w)). (c, q, (λ d u x. g _ _ _ _ x h), w)
       go false = λ (b, p, h, (c, q, g, w)). (c, q, (λ d u x. g _ _ _ _ x h), w)
 
-  -- a closing parenthesis behind it ends a head, or an operand of an infix head
-  pub keeps_head_closed : (i : ℕ) {t : Terminal} {l : Look} → Seen f t l → Keeps v (sy.HeadClosed i) k f t l a o
-  keeps_head_closed i (operator n) = λ (q1, e1, (q2, e2, (q3, e3, (b, p, h, (r, e4, w))))). (b, r, (λ e c d q u x j. infix_head n (to_node e3 (paren_pat (to_node (led node.PatParen e2 x.is_at) (typed_pat_pat (infix_pat_typed (infixed x (to_node e1 (operand_pat (atpat_operand j))))))))) (to_node e4 h)), w)
-  keeps_head_closed i {t = t} {l = l} _ = go (is_atpat l)
-    where
-      go : (b : Bool) → Kept v (cond b (Skip (P2 sy.Atpats (sy.Emit (made.Lead node.ParenHeadArgs i)))) (Skip (P1 (sy.Emit (made.Lead node.ParenHead i))))) (sy.HeadClosed i) k f t a o
-      go true = λ (b, p, h, (q, e, w)). (b, q, (λ e2 c d q2 u x j. paren_head_args x.looks_so x.pattern j (to_node (led node.ParenHeadArgs e x.is_at) h)), w)
-      go false = λ (q, e, w). (_, q, (λ e2 c d q2 u x j. paren_head x.looks_so x.pattern (to_node (led node.ParenHead e x.is_at) j)), w)
-
-module _ (v : Bool) (k : List Symbol) (f : Fix) (a : List Terminal) (o : List Made) where
   pub keeps_head_second_name : (e : Root) (i : ℕ) {t : Terminal} {l : Look} → Seen f t l → Keeps v (sy.HeadSecondName e i) k f t l a o
   keeps_head_second_name e i {t = t} {l = l} s = go (is_atpat l)
     where
@@ -135,3 +120,17 @@ module _ (v : Bool) (k : List Symbol) (f : Fix) (a : List Terminal) (o : List Ma
   pub keeps_head_second_end : (e : Root) (i : ℕ) {t : Terminal} {l : Look} → Seen f t l → Keeps v (sy.HeadSecondEnd e i) k f t l a o
   keeps_head_second_end e i (other tok.Close _) = λ (b, p, g, w). (b, p, (λ c d q u x j. g e _ _ _ _ x j), w)
   keeps_head_second_end e i {t = t} _ = λ w. let (b, p, g, m) = second_on v k f (t ∷ a) o e i w in (b, p, (λ c d q u x j. g _ _ _ _ x (atpat_operand j)), m)
+
+  -- the closing parenthesis: of a pattern, and of a head or an operand
+  pub keeps_head_end : (i : ℕ) {t : Terminal} {l : Look} → Seen f t l → Keeps v (sy.HeadEnd i) k f t l a o
+  keeps_head_end i (other tok.Close _) = λ (q, e, (b, p, g, w)). (b, p, (λ c u n j. g _ _ (paren_pat (to_node (led node.PatParen e n) j))), w)
+  keeps_head_end i (other tok.Comma _) = λ (b, p, h, (c, e, (q, e2, (d, r, g, w)))). (d, r, (λ c2 u n j. g _ _ (tuple_pat j (to_node (led node.PatTuple e2 n) (to_token e h)))), w)
+  keeps_head_end i _ = tt
+
+  pub keeps_head_closed : (i : ℕ) {t : Terminal} {l : Look} → Seen f t l → Keeps v (sy.HeadClosed i) k f t l a o
+  keeps_head_closed i (operator n) = λ (q1, e1, (q2, e2, (q3, e3, (b, p, h, (r, e4, w))))). (b, r, (λ e c d q u x j. infix_head n (to_node e3 (paren_pat (to_node (led node.PatParen e2 x.is_at) (typed_pat_pat (infix_pat_typed (infixed x (to_node e1 (operand_pat (atpat_operand j))))))))) (to_node e4 h)), w)
+  keeps_head_closed i {t = t} {l = l} _ = go (is_atpat l)
+    where
+      go : (b : Bool) → Kept v (cond b (Skip (P2 sy.Atpats (sy.Emit (made.Lead node.ParenHeadArgs i)))) (Skip (P1 (sy.Emit (made.Lead node.ParenHead i))))) (sy.HeadClosed i) k f t a o
+      go true = λ (b, p, h, (q, e, w)). (b, q, (λ e2 c d q2 u x j. paren_head_args x.looks_so x.pattern j (to_node (led node.ParenHeadArgs e x.is_at) h)), w)
+      go false = λ (q, e, w). (_, q, (λ e2 c d q2 u x j. paren_head x.looks_so x.pattern (to_node (led node.ParenHead e x.is_at) j)), w)

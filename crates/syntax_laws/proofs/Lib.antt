@@ -11,7 +11,13 @@ pub mod Means
 pub mod IdentifiersSound
 pub mod TypesSound
 pub mod PatternsSound
-pub mod ExpressionsSound
 pub mod HeadsSound
+pub mod ExpressionsSound
 pub mod DecsSound
 pub mod ProgramsSound
+pub mod Lawful
+pub mod Kept
+pub mod Taken
+pub mod Completed
+pub mod Grouped
+pub mod Derived

@@ -104,36 +104,45 @@ abbrev pub Rest : Type 1
 Rest = Fix → List Terminal → List Made → Type 0
 
 module _ (v : Bool) where
-  -- a phrase stands next, and then the rest
+  -- something holds of what stands up to a place, and then the rest
+  abbrev pub Until : (List Terminal → List Made → Type 0) → Rest → Fix → Type 0
+  Until q w f = (b : List Terminal) × (p : List Made) × q b p × w f b p
+
+  -- a phrase stands next
   abbrev pub Reads : Kind → Rest → Fix → List Terminal → List Made → Type 0
-  Reads n w f a o = (b : List Terminal) × (p : List Made) × Phrase v n f a b o p × w f b p
+  Reads n w f a o = Until (λ b p. Phrase v n f a b o p) w f
 
   -- and an expression, or what ends in one
   abbrev pub ReadsOpen : (Bool → Kind) → Rest → Fix → List Terminal → List Made → Type 0
   ReadsOpen n w f a o = (m : Bool) × (b : List Terminal) × (p : List Made) × Phrase v (n m) f a b o p × At (past m) f b × w f b p
 
+  -- and one with directives
+  abbrev pub Directs : (Fix → Kind) → Rest → Fix → List Terminal → List Made → Type 0
+  Directs n w f a o = (g : Fix) × (b : List Terminal) × (p : List Made) × Phrase v (n g) f a b o p × w g b p
+
   -- a terminal stands next
   abbrev pub Wants : Terminal → Rest → Fix → List Terminal → List Made → Type 0
   Wants t w f a o = (b : List Terminal) × (a ≡ t ∷ b) × w f b o
 
-  -- a phrase of the first kind that ends here is the beginning of one of the second
+  -- a phrase of the first kind that ends here begins one of the second
   abbrev pub Longer : Kind → Kind → Rest → Fix → List Terminal → List Made → Type 0
-  Longer m n w f a o = (b : List Terminal) × (p : List Made) × ((c : List Terminal) (q : List Made) → Phrase v m f c a q o → Phrase v n f c b q p) × w f b p
+  Longer m n w f a o = Until (λ b p. (c : List Terminal) (q : List Made) → Phrase v m f c a q o → Phrase v n f c b q p) w f
 
+  -- and so does an expression
   abbrev pub LongerExp : Kind → Rest → Fix → List Terminal → List Made → Type 0
-  LongerExp n w f a o = (b : List Terminal) × (p : List Made) × ((m : Bool) (c : List Terminal) (q : List Made) → Phrase v (IsExp m) f c a q o → Phrase v n f c b q p) × w f b p
+  LongerExp n w f a o = Until (λ b p. (m : Bool) (c : List Terminal) (q : List Made) → Phrase v (IsExp m) f c a q o → Phrase v n f c b q p) w f
 
-  -- and so are two with a terminal between them
+  -- and so do two with a terminal between them
   abbrev pub LongerPair : Kind → Terminal → Kind → Kind → Rest → Fix → List Terminal → List Made → Type 0
-  LongerPair m t l n w f a o = (b : List Terminal) × (p : List Made) × ((c d : List Terminal) (q s : List Made) → Phrase v m f c (t ∷ d) q s → Phrase v l f d a s o → Phrase v n f c b q p) × w f b p
+  LongerPair m t l n w f a o = Until (λ b p. (c d : List Terminal) (q s : List Made) → Phrase v m f c (t ∷ d) q s → Phrase v l f d a s o → Phrase v n f c b q p) w f
 
   -- behind a bracket with a number
   abbrev pub Behind : Terminal → Kind → ℕ → Rest → Fix → List Terminal → List Made → Type 0
-  Behind t n i w f a o = (b : List Terminal) × (p : List Made) × (i ≡ length (t ∷ a) → Phrase v n f (t ∷ a) b o p) × w f b p
+  Behind t n i w f a o = Until (λ b p. i ≡ length (t ∷ a) → Phrase v n f (t ∷ a) b o p) w f
 
   -- behind an opening parenthesis with a number and a phrase
   abbrev pub Inside : Kind → Kind → ℕ → Rest → Fix → List Terminal → List Made → Type 0
-  Inside m n i w f a o = (b : List Terminal) × (p : List Made) × ((c : List Terminal) (q : List Made) → i ≡ length (tok.Open ∷ c) → Phrase v m f c a q o → Phrase v n f (tok.Open ∷ c) b q p) × w f b p
+  Inside m n i w f a o = Until (λ b p. (c : List Terminal) (q : List Made) → i ≡ length (tok.Open ∷ c) → Phrase v m f c a q o → Phrase v n f (tok.Open ∷ c) b q p) w f
 
   -- what stands behind the opening parenthesis of a head: an atomic pattern, and an operator that ends before d
   pub record First (f : Fix) (e : Root) (i : ℕ) (c : List Terminal) (q : List Made) (d : List Terminal) (u : List Made) : Type 0 where
@@ -149,28 +158,28 @@ module _ (v : Bool) where
   -- what a symbol stands for, with what the rest of the stack does
   abbrev pub Meaning : Symbol → Rest → Fix → List Terminal → List Made → Type 0
   -- programs and declarations
-  Meaning sy.Program w f a o = (g : Fix) × (b : List Terminal) × (p : List Made) × Phrase v (IsProgram g) f a b o p × w g b p
-  Meaning sy.Decs w f a o = (g : Fix) × (b : List Terminal) × (p : List Made) × Phrase v (IsDecs g) f a b o p × w g b p
-  Meaning sy.Dec w f a o = (g : Fix) × (b : List Terminal) × (p : List Made) × Phrase v (IsDec g) f a b o p × w g b p
+  Meaning sy.Program w f a o = Directs IsProgram w f a o
+  Meaning sy.Decs w f a o = Directs IsDecs w f a o
+  Meaning sy.Dec w f a o = Directs IsDec w f a o
   Meaning (sy.LocalIn j) w f a o = (h : Fix) × (b c : List Terminal) × (p : List Made) × (a ≡ tok.In ∷ b) × Phrase v (IsDecs h) f b (tok.End ∷ c) o p × w (take j h ++ drop (length f) h) c p
   Meaning (sy.LocalEnd j m) w f a o = (b : List Terminal) × (a ≡ tok.End ∷ b) × w (take j f ++ drop m f) b o
   Meaning (sy.Digit r i) w f a o = (d : ℕ) × (g : Fix) × (b c : List Terminal) × (p q : List Made) × Phrase v (IsDigit d) f a b o p × Phrase v (IsVids (status.Infix d r) g) f b c p (made.Lead (node.Directive (status.Infix d r)) i ∷ q) × w g c q
-  Meaning (sy.Vids u) w f a o = (g : Fix) × (b : List Terminal) × (p : List Made) × Phrase v (IsVids u g) f a b o p × w g b p
+  Meaning (sy.Vids u) w f a o = Directs (IsVids u) w f a o
   Meaning (sy.VidsRest u) w f a o = ((g : Fix) × (b : List Terminal) × (p : List Made) × Phrase v (IsVids u g) f a b o (made.Inner node.MoreVids ∷ p) × w g b p) ⊎ w f a o
   Meaning sy.ValTyVars w f a o = Reads IsTyVars (Reads IsValBind w) f a o
   Meaning (sy.ValParen i) w f a o = (c : List Terminal) × (q : List Made) × (i ≡ length (tok.Open ∷ a) → (b : List Terminal) × (p : List Made) × Phrase v IsTyVars f (tok.Open ∷ a) b o p × Phrase v IsValBind f b c p q) × w f c q
   Meaning sy.TyVarList w f a o = Reads IsTyVarList w f a o
-  Meaning sy.TyVarsRest w f a o = (b : List Terminal) × (p : List Made) × ((x : Name) → Phrase v IsTyVarList f (tok.TyVar x ∷ a) b (made.Lead (node.TyVar x) (length (tok.TyVar x ∷ a)) ∷ o) p) × w f b p
+  Meaning sy.TyVarsRest w f a o = Until (λ b p. (x : Name) → Phrase v IsTyVarList f (tok.TyVar x ∷ a) b (made.Lead (node.TyVar x) (length (tok.TyVar x ∷ a)) ∷ o) p) w f
   Meaning sy.ValBind w f a o = Reads IsValBind w f a o
   Meaning sy.ValEquals w f a o = Longer IsPat IsValBind w f a o
-  Meaning sy.ValAnd w f a o = (b : List Terminal) × (p : List Made) × ((m : Bool) (c d : List Terminal) (q s : List Made) → Phrase v IsPat f c (tok.Equals ∷ d) q s → Phrase v (IsExp m) f d a s (made.Inner node.ValBind ∷ o) → Phrase v IsValBind f c b q p) × w f b p
+  Meaning sy.ValAnd w f a o = Until (λ b p. (m : Bool) (c d : List Terminal) (q s : List Made) → Phrase v IsPat f c (tok.Equals ∷ d) q s → Phrase v (IsExp m) f d a s (made.Inner node.ValBind ∷ o) → Phrase v IsValBind f c b q p) w f
   Meaning sy.FunTyVars w f a o = Reads IsTyVars (Reads IsFunBinds w) f a o
   Meaning (sy.FunParen i) w f a o = (c : List Terminal) × (q : List Made) × (i ≡ length (tok.Open ∷ a) → (b : List Terminal) × (p : List Made) × Phrase v IsTyVars f (tok.Open ∷ a) b o p × Phrase v IsFunBinds f b c p q) × w f c q
   Meaning sy.FunBinds w f a o = Reads IsFunBinds w f a o
   Meaning sy.FunAnd w f a o = Longer IsClauses IsFunBinds w f a o
   Meaning sy.Clauses w f a o = Reads IsClauses w f a o
   Meaning sy.ClauseRest w f a o = Longer IsHead IsClauses w f a o
-  Meaning sy.ClauseBar w f a o = (b : List Terminal) × (p : List Made) × ((m : Bool) (c : List Terminal) (q : List Made) → At (past m) f a → Phrase v (IsClause m) f c a q o → Phrase v IsClauses f c b q p) × w f b p
+  Meaning sy.ClauseBar w f a o = Until (λ b p. (m : Bool) (c : List Terminal) (q : List Made) → At (past m) f a → Phrase v (IsClause m) f c a q o → Phrase v IsClauses f c b q p) w f
   -- heads of clauses
   Meaning sy.Head w f a o = Reads IsHead w f a o
   Meaning sy.HeadName w f a o = Longer IsLongVid IsHead w f a o
@@ -178,14 +187,14 @@ module _ (v : Bool) where
   Meaning sy.Atpats w f a o = Reads IsAtpats w f a o
   Meaning sy.AtpatsRest w f a o = Longer IsAtpat IsAtpats w f a o
   Meaning (sy.HeadParen i) w f a o = Behind tok.Open IsHead i w f a o
-  Meaning (sy.HeadFirstOp j i) w f a o = (b : List Terminal) × (p : List Made) × (j ≡ length (tok.Op ∷ a) → i ≡ length (tok.Open ∷ tok.Op ∷ a) → Phrase v IsHead f (tok.Open ∷ tok.Op ∷ a) b o p) × w f b p
+  Meaning (sy.HeadFirstOp j i) w f a o = Until (λ b p. j ≡ length (tok.Op ∷ a) → i ≡ length (tok.Open ∷ tok.Op ∷ a) → Phrase v IsHead f (tok.Open ∷ tok.Op ∷ a) b o p) w f
   Meaning (sy.HeadFirstName s i) w f a o = Inside (named_by s) IsHead i w f a o
   Meaning (sy.HeadFirst i) w f a o = Inside IsAtpat IsHead i w f a o
-  Meaning (sy.HeadSecond e i) w f a o = (b : List Terminal) × (p : List Made) × ((c : List Terminal) (q : List Made) → First f e i c q a o → Phrase v IsHead f (tok.Open ∷ c) b q p) × w f b p
-  Meaning (sy.HeadSecondName e i) w f a o = (b : List Terminal) × (p : List Made) × ((c d : List Terminal) (q u : List Made) → First f e i c q d u → Phrase v IsLongVid f d a u o → Phrase v IsHead f (tok.Open ∷ c) b q p) × w f b p
-  Meaning (sy.HeadSecondEnd e i) w f a o = (b : List Terminal) × (p : List Made) × ((c d : List Terminal) (q u : List Made) → First f e i c q d u → Phrase v IsAtpat f d a u o → Phrase v IsHead f (tok.Open ∷ c) b q p) × w f b p
+  Meaning (sy.HeadSecond e i) w f a o = Until (λ b p. (c : List Terminal) (q : List Made) → First f e i c q a o → Phrase v IsHead f (tok.Open ∷ c) b q p) w f
+  Meaning (sy.HeadSecondName e i) w f a o = Until (λ b p. (c d : List Terminal) (q u : List Made) → First f e i c q d u → Phrase v IsLongVid f d a u o → Phrase v IsHead f (tok.Open ∷ c) b q p) w f
+  Meaning (sy.HeadSecondEnd e i) w f a o = Until (λ b p. (c d : List Terminal) (q u : List Made) → First f e i c q d u → Phrase v IsAtpat f d a u o → Phrase v IsHead f (tok.Open ∷ c) b q p) w f
   Meaning (sy.HeadEnd i) w f a o = Inside IsPat IsHead i w f a o
-  Meaning (sy.HeadClosed i) w f a o = (b : List Terminal) × (p : List Made) × ((e : Root) (c d : List Terminal) (q u : List Made) → First f e i c q d u → Phrase v IsAtpat f d (tok.Close ∷ a) u o → Phrase v IsHead f (tok.Open ∷ c) b q p) × w f b p
+  Meaning (sy.HeadClosed i) w f a o = Until (λ b p. (e : Root) (c d : List Terminal) (q u : List Made) → First f e i c q d u → Phrase v IsAtpat f d (tok.Close ∷ a) u o → Phrase v IsHead f (tok.Open ∷ c) b q p) w f
   -- type, datatype and exception bindings
   Meaning sy.TypBinds w f a o = Reads IsTypBinds w f a o
   Meaning sy.TypAnd w f a o = Longer IsTypBind IsTypBinds w f a o
@@ -203,12 +212,13 @@ module _ (v : Bool) where
   Meaning sy.OpVid w f a o = Reads IsOpVid w f a o
   Meaning sy.AnyVid w f a o = Reads IsVid w f a o
   Meaning sy.LongVid w f a o = Reads IsLongVid w f a o
-  Meaning sy.AnyLong w f a o = (b : List Terminal) × (p : List Made) × ((q : List Made) → p ≡ made.Lead node.Op (length (tok.Op ∷ a)) ∷ q → Phrase v IsLongVid f (tok.Op ∷ a) b o q) × w f b p
+  Meaning sy.AnyLong w f a o = Until (λ b p. (q : List Made) → p ≡ made.Lead node.Op (length (tok.Op ∷ a)) ∷ q → Phrase v IsLongVid f (tok.Op ∷ a) b o q) w f
   Meaning sy.Label w f a o = Reads IsLabel w f a o
   -- expressions
   Meaning sy.Exp w f a o = ReadsOpen IsExp w f a o
   Meaning sy.Prefix w f a o = ReadsOpen IsPrefix w f a o
   Meaning sy.TyRest w f a o = Longer IsTyped IsTyped w f a o
+  -- behind what ends in an expression, the rest of a conjunction, a disjunction and an expression is nothing
   Meaning sy.AndRest w f a o = (n : Kind) × (b : List Terminal) × (p : List Made) × Conjunction f b n × ((c : List Terminal) (q : List Made) → Phrase v IsConj f c a q o → Phrase v n f c b q p) × (At no_and f a → w f a o) × w f b p
   Meaning sy.AndRight w f a o = (n : Kind) × (b : List Terminal) × (p : List Made) × Operand f b n × Phrase v n f a b o p × w f b p
   Meaning sy.OrRest w f a o = (n : Kind) × (b : List Terminal) × (p : List Made) × (At no_and f a → Disjunction f b n) × ((c : List Terminal) (q : List Made) → Phrase v IsDisj f c a q o → Phrase v n f c b q p) × (At no_or f a → w f a o) × w f b p
@@ -217,19 +227,19 @@ module _ (v : Bool) where
   Meaning sy.Args w f a o = Longer IsApp IsApp w f a o
   Meaning (sy.Ops e) w f a o = (b : List Terminal) × (p : List Made) × ((c : List Terminal) (q : List Made) (m : Root) → Phrase v (IsInfix e m) f c a q o → At (exp_closes v m) f a → (n : Root) × Phrase v (IsInfix e n) f c b q p) × At (exp_closes v e) f b × w f b p
   Meaning sy.Match w f a o = (b : List Terminal) × (p : List Made) × Phrase v IsMatch f a b o p × At (past true) f b × w f b p
-  Meaning sy.MatchBar w f a o = (b : List Terminal) × (p : List Made) × ((m : Bool) (c : List Terminal) (q : List Made) → At (past m) f a → Phrase v (IsRule m) f c a q o → Phrase v IsMatch f c b q p × At (past true) f b) × w f b p
+  Meaning sy.MatchBar w f a o = Until (λ b p. (m : Bool) (c : List Terminal) (q : List Made) → At (past m) f a → Phrase v (IsRule m) f c a q o → Phrase v IsMatch f c b q p × At (past true) f b) w f
   Meaning sy.Atexp w f a o = Reads IsAtexp w f a o
   Meaning (sy.LetEnd j) w f a o = (b : List Terminal) × (a ≡ tok.End ∷ b) × w (take j f) b o
   Meaning sy.Seq w f a o = Reads IsSeq w f a o
   Meaning sy.SeqRest w f a o = LongerExp IsSeq w f a o
   Meaning (sy.ParenExp i) w f a o = Behind tok.Open IsAtexp i w f a o
-  Meaning (sy.ParenRest i) w f a o = (b : List Terminal) × (p : List Made) × ((m : Bool) (c : List Terminal) (q : List Made) → i ≡ length (tok.Open ∷ c) → Phrase v (IsExp m) f c a q o → Phrase v IsAtexp f (tok.Open ∷ c) b q p) × w f b p
+  Meaning (sy.ParenRest i) w f a o = Until (λ b p. (m : Bool) (c : List Terminal) (q : List Made) → i ≡ length (tok.Open ∷ c) → Phrase v (IsExp m) f c a q o → Phrase v IsAtexp f (tok.Open ∷ c) b q p) w f
   Meaning sy.Items w f a o = Reads IsItems w f a o
   Meaning sy.ItemsRest w f a o = LongerExp IsItems w f a o
   Meaning (sy.ListExp i) w f a o = Behind tok.OpenBracket IsAtexp i w f a o
   Meaning (sy.RecordExp i) w f a o = Behind tok.OpenBrace IsAtexp i w f a o
   Meaning sy.Rows w f a o = Reads IsRows w f a o
-  Meaning sy.RowsRest w f a o = (b : List Terminal) × (p : List Made) × ((m : Bool) (c d : List Terminal) (q s : List Made) → Phrase v IsLabel f c (tok.Equals ∷ d) q s → Phrase v (IsExp m) f d a s (made.Inner node.Row ∷ o) → Phrase v IsRows f c b q p) × w f b p
+  Meaning sy.RowsRest w f a o = Until (λ b p. (m : Bool) (c d : List Terminal) (q s : List Made) → Phrase v IsLabel f c (tok.Equals ∷ d) q s → Phrase v (IsExp m) f d a s (made.Inner node.Row ∷ o) → Phrase v IsRows f c b q p) w f
   -- patterns
   Meaning sy.Pat w f a o = Reads IsPat w f a o
   Meaning (sy.PatOp j) w f a o = Behind tok.Op IsPat j w f a o
@@ -250,13 +260,13 @@ module _ (v : Bool) where
   Meaning sy.PatRows w f a o = Reads IsPatRows w f a o
   Meaning sy.PatRowsRest w f a o = Longer IsPatRow IsPatRows w f a o
   Meaning sy.PatRow w f a o = Reads IsPatRow w f a o
-  Meaning sy.PunRow w f a o = (b : List Terminal) × (p : List Made) × ((c : List Terminal) (q : List Made) → Phrase v IsLabel f c a q o → Phrase v IsPun f c a q o → Phrase v IsPatRow f c b q p) × w f b p
+  Meaning sy.PunRow w f a o = Until (λ b p. (c : List Terminal) (q : List Made) → Phrase v IsLabel f c a q o → Phrase v IsPun f c a q o → Phrase v IsPatRow f c b q p) w f
   Meaning sy.PunRowTy w f a o = LongerPair IsPun tok.Colon IsTy IsPatRow w f a o
   -- types
   Meaning sy.Ty w f a o = Reads IsTy w f a o
   Meaning sy.TyAtom w f a o = Reads IsTyAtom w f a o
   Meaning (sy.TyParen i) w f a o = Inside IsTy IsTyAtom i w f a o
-  Meaning (sy.TySeqCon i) w f a o = (b : List Terminal) × (p : List Made) × ((c d : List Terminal) (q s : List Made) → i ≡ length (tok.Open ∷ c) → Phrase v IsTy f c (tok.Comma ∷ d) q s → Phrase v IsTys f d (tok.Close ∷ a) s o → Phrase v IsTyAtom f (tok.Open ∷ c) b q p) × w f b p
+  Meaning (sy.TySeqCon i) w f a o = Until (λ b p. (c d : List Terminal) (q s : List Made) → i ≡ length (tok.Open ∷ c) → Phrase v IsTy f c (tok.Comma ∷ d) q s → Phrase v IsTys f d (tok.Close ∷ a) s o → Phrase v IsTyAtom f (tok.Open ∷ c) b q p) w f
   Meaning sy.TyPost w f a o = Longer IsTyAtom IsTyAtom w f a o
   Meaning sy.TyFactors w f a o = Longer IsTyAtom IsProduct w f a o
   Meaning sy.Factors w f a o = Reads IsFactors w f a o
@@ -293,6 +303,7 @@ module _ (v : Bool) where
   Kept (Eat p) s k f t a o = Means (pushed p k) (after s t f) a o → Means (s ∷ k) f (t ∷ a) o
   Kept _ s k f t a o = Unit {0}
 
+  -- and so does what the symbol does at a terminal
   abbrev pub Keeps : Symbol → List Symbol → Fix → Terminal → Look → List Terminal → List Made → Type 0
   Keeps s k f t l a o = Kept (move_of v s (has_infix f) (length f) (length (t ∷ a)) l) s k f t a o
 

@@ -19,10 +19,47 @@ use Rattle.syntax_laws.proofs.Means.{Seen, plain, operator, other, at_look, Long
 use Rattle.syntax_laws.proofs.PatternSteps.{closes}
 
 module _ (v : Bool) (k : List Symbol) (f : Fix) (a : List Terminal) (o : List Made) where
-  -- what goes on with an operand, and with operators of one precedence
+  -- operators and types go on with an operand
   pub pat_on : Means v (sy.PatOps root.Bare ∷ sy.PatTyRest ∷ k) f a o → Longer v IsOperand IsPat (Means v k) f a o
   pat_on (b, p, g, z, (c, q, h, w)) = (c, q, (λ d u i. h _ _ (infix_pat_typed (g _ _ root.Bare (operand_pat i) (bare_pat v f a)).1)), w)
 
+module _ (v : Bool) (k : List Symbol) (f : Fix) (a : List Terminal) (o : List Made) where
+  -- patterns that begin with an identifier, and others
+  pub keeps_pat : {t : Terminal} {l : Look} → Seen f t l → Keeps v sy.Pat k f t l a o
+  keeps_pat (other (tok.Long x y) _) = λ (q, e, (b, p, g, w)). (b, p, g _ _ (at_nodes e long_vid), w)
+  keeps_pat (other tok.Op _) = λ (b, p, h, w). (b, p, h refl, w)
+  keeps_pat (plain n) = λ (q, e, (b, p, g, w)). (b, p, g _ _ (at_nodes e (plain_vid n)), w)
+  keeps_pat _ = λ (b, p, h, w). let (c, q, g, m) = pat_on v k f b p w in (c, q, g _ _ (atpat_operand h), m)
+
+  pub keeps_pat_op : (j : ℕ) {t : Terminal} {l : Look} → Seen f t l → Keeps v (sy.PatOp j) k f t l a o
+  keeps_pat_op j (other (tok.Long x y) _) = λ (q, e, (r, e2, (b, p, g, w))). (b, p, (λ n. g _ _ (at_nodes (made_on e (led node.Op e2 n)) op_long_vid)), w)
+  keeps_pat_op j (plain _) = λ (q, e, (r, e2, (b, p, g, w))). (b, p, (λ n. g _ _ (op_vid (to_node (led node.Op e2 n) (at_nodes e vid)))), w)
+  keeps_pat_op j (operator _) = λ (q, e, (r, e2, (b, p, g, w))). (b, p, (λ n. g _ _ (op_vid (to_node (led node.Op e2 n) (at_nodes e vid)))), w)
+  keeps_pat_op j (other tok.Equals _) = λ (q, e, (r, e2, (b, p, g, w))). (b, p, (λ n. g _ _ (op_vid (to_node (led node.Op e2 n) (at_nodes e vid_equals)))), w)
+  keeps_pat_op j _ = tt
+
+  pub keeps_pat_name : {t : Terminal} {l : Look} → Seen f t l → Keeps v sy.PatName k f t l a o
+  keeps_pat_name (other tok.As _) = λ (b, p, h, (q, e, w)). (b, q, (λ c u i. layered i (to_node e h)), w)
+  keeps_pat_name (other tok.Colon _) = λ (b, p, h, (c, q, g, w)). (c, q, (λ d u i. g _ _ _ _ i h), w)
+  keeps_pat_name _ = λ (b, p, g, w). (b, p, (λ c u i. g _ _ (short_vid i)), w)
+
+  pub keeps_pat_name_ty : {t : Terminal} {l : Look} → Seen f t l → Keeps v sy.PatNameTy k f t l a o
+  keeps_pat_name_ty (other tok.As _) = λ (b, p, h, (q, e, w)). (b, q, (λ c d u s i j. typed_layered i j (to_node e h)), w)
+  keeps_pat_name_ty _ = λ (q, e, (b, p, g, w)). (b, p, (λ c d u s i j. g _ _ (typed_pat (infix_pat_typed (operand_pat (atpat_operand (vid_pat (short_vid i))))) (to_node e j))), w)
+
+  pub keeps_pat_long : {t : Terminal} {l : Look} → Seen f t l → Keeps v sy.PatLong k f t l a o
+  keeps_pat_long {t = t} {l = l} s = go (is_atpat l)
+    where
+      go : (b : Bool) → Kept v (cond b (Skip (P4 sy.Atpat (sy.Emit (made.Inner node.ConPat)) (sy.PatOps root.Bare) sy.PatTyRest)) (Skip (P2 (sy.PatOps root.Bare) sy.PatTyRest))) sy.PatLong k f t a o
+      go true = λ (b, p, h, (q, e, w)). let (c, r, g, m) = pat_on v k f b q w in (c, r, (λ d u i. g _ _ (con_pat i (to_node e h))), m)
+      go false = λ w. let (c, r, g, m) = pat_on v k f (t ∷ a) o w in (c, r, (λ d u i. g _ _ (atpat_operand (vid_pat i))), m)
+
+  -- types behind a pattern
+  pub keeps_pat_ty_rest : {t : Terminal} {l : Look} → Seen f t l → Keeps v sy.PatTyRest k f t l a o
+  keeps_pat_ty_rest (other tok.Colon _) = λ (b, p, h, (q, e, (c, r, g, w))). (c, r, (λ d u i. g _ _ (typed_pat i (to_node e h))), w)
+  keeps_pat_ty_rest _ = λ w. (_, _, (λ c u i. typed_pat_pat i), w)
+
+  -- operators and their operands
   pub keeps_pat_ops : (e : Root) {t : Terminal} {l : Look} → Seen f t l → Keeps v (sy.PatOps e) k f t l a o
   keeps_pat_ops e (operator {x = x} {s = s} {l = l} {r = r} n) = tried (fits e (root.Operator l r)) refl
     where
@@ -58,11 +95,6 @@ module _ (v : Bool) (k : List Symbol) (f : Fix) (a : List Terminal) (o : List Ma
       go true = λ (b, p, h, (q, e, w)). (b, q, (λ c u i. con_pat i (to_node e h)), w)
       go false = λ w. (_, _, (λ c u i. atpat_operand (vid_pat i)), w)
 
-  -- types behind a pattern
-  pub keeps_pat_ty_rest : {t : Terminal} {l : Look} → Seen f t l → Keeps v sy.PatTyRest k f t l a o
-  keeps_pat_ty_rest (other tok.Colon _) = λ (b, p, h, (q, e, (c, r, g, w))). (c, r, (λ d u i. g _ _ (typed_pat i (to_node e h))), w)
-  keeps_pat_ty_rest _ = λ w. (_, _, (λ c u i. typed_pat_pat i), w)
-
   -- atomic patterns
   pub keeps_atpat : {t : Terminal} {l : Look} → Seen f t l → Keeps v sy.Atpat k f t l a o
   keeps_atpat (other tok.Underscore _) = λ (q, e, w). (_, q, at_nodes e wild, w)
@@ -97,7 +129,7 @@ module _ (v : Bool) (k : List Symbol) (f : Fix) (a : List Terminal) (o : List Ma
   keeps_pat_list i (other tok.CloseBracket _) = λ (q, e, w). (_, q, (λ n. at_nodes (led node.PatEmptyList e n) empty_list_pat), w)
   keeps_pat_list i _ = λ (b, p, h, (c, e, (q, e2, w))). (c, q, (λ n. list_pat (to_node (led node.PatList e2 n) (to_token e h))), w)
 
-  -- rows of records
+  -- records and their rows
   pub keeps_pat_record : (i : ℕ) {t : Terminal} {l : Look} → Seen f t l → Keeps v (sy.PatRecord i) k f t l a o
   keeps_pat_record i (other tok.CloseBrace _) = λ (q, e, w). (_, q, (λ n. at_nodes (led node.PatEmptyRecord e n) empty_record_pat), w)
   keeps_pat_record i _ = λ (b, p, h, (c, e, (q, e2, w))). (c, q, (λ n. record_pat (to_node (led node.PatRecord e2 n) (to_token e h))), w)
@@ -128,34 +160,3 @@ module _ (v : Bool) (k : List Symbol) (f : Fix) (a : List Terminal) (o : List Ma
   pub keeps_pun_row_ty : {t : Terminal} {l : Look} → Seen f t l → Keeps v sy.PunRowTy k f t l a o
   keeps_pun_row_ty (other tok.As _) = λ (b, p, h, (q, e, w)). (b, q, (λ c d u s i j. typed_pun_row_as i j (to_node e h)), w)
   keeps_pun_row_ty _ = λ (q, e, w). (_, q, (λ c d u s i j. typed_pun_row i (to_node e j)), w)
-
-module _ (v : Bool) (k : List Symbol) (f : Fix) (a : List Terminal) (o : List Made) where
-  -- patterns that begin with an identifier, and others
-  pub keeps_pat : {t : Terminal} {l : Look} → Seen f t l → Keeps v sy.Pat k f t l a o
-  keeps_pat (other (tok.Long x y) _) = λ (q, e, (b, p, g, w)). (b, p, g _ _ (at_nodes e long_vid), w)
-  keeps_pat (other tok.Op _) = λ (b, p, h, w). (b, p, h refl, w)
-  keeps_pat (plain n) = λ (q, e, (b, p, g, w)). (b, p, g _ _ (at_nodes e (plain_vid n)), w)
-  keeps_pat _ = λ (b, p, h, w). let (c, q, g, m) = pat_on v k f b p w in (c, q, g _ _ (atpat_operand h), m)
-
-  pub keeps_pat_op : (j : ℕ) {t : Terminal} {l : Look} → Seen f t l → Keeps v (sy.PatOp j) k f t l a o
-  keeps_pat_op j (other (tok.Long x y) _) = λ (q, e, (r, e2, (b, p, g, w))). (b, p, (λ n. g _ _ (at_nodes (made_on e (led node.Op e2 n)) op_long_vid)), w)
-  keeps_pat_op j (plain _) = λ (q, e, (r, e2, (b, p, g, w))). (b, p, (λ n. g _ _ (op_vid (to_node (led node.Op e2 n) (at_nodes e vid)))), w)
-  keeps_pat_op j (operator _) = λ (q, e, (r, e2, (b, p, g, w))). (b, p, (λ n. g _ _ (op_vid (to_node (led node.Op e2 n) (at_nodes e vid)))), w)
-  keeps_pat_op j (other tok.Equals _) = λ (q, e, (r, e2, (b, p, g, w))). (b, p, (λ n. g _ _ (op_vid (to_node (led node.Op e2 n) (at_nodes e vid_equals)))), w)
-  keeps_pat_op j _ = tt
-
-  pub keeps_pat_name : {t : Terminal} {l : Look} → Seen f t l → Keeps v sy.PatName k f t l a o
-  keeps_pat_name (other tok.As _) = λ (b, p, h, (q, e, w)). (b, q, (λ c u i. layered i (to_node e h)), w)
-  keeps_pat_name (other tok.Colon _) = λ (b, p, h, (c, q, g, w)). (c, q, (λ d u i. g _ _ _ _ i h), w)
-  keeps_pat_name _ = λ (b, p, g, w). (b, p, (λ c u i. g _ _ (short_vid i)), w)
-
-  pub keeps_pat_name_ty : {t : Terminal} {l : Look} → Seen f t l → Keeps v sy.PatNameTy k f t l a o
-  keeps_pat_name_ty (other tok.As _) = λ (b, p, h, (q, e, w)). (b, q, (λ c d u s i j. typed_layered i j (to_node e h)), w)
-  keeps_pat_name_ty _ = λ (q, e, (b, p, g, w)). (b, p, (λ c d u s i j. g _ _ (typed_pat (infix_pat_typed (operand_pat (atpat_operand (vid_pat (short_vid i))))) (to_node e j))), w)
-
-  pub keeps_pat_long : {t : Terminal} {l : Look} → Seen f t l → Keeps v sy.PatLong k f t l a o
-  keeps_pat_long {t = t} {l = l} s = go (is_atpat l)
-    where
-      go : (b : Bool) → Kept v (cond b (Skip (P4 sy.Atpat (sy.Emit (made.Inner node.ConPat)) (sy.PatOps root.Bare) sy.PatTyRest)) (Skip (P2 (sy.PatOps root.Bare) sy.PatTyRest))) sy.PatLong k f t a o
-      go true = λ (b, p, h, (q, e, w)). let (c, r, g, m) = pat_on v k f b q w in (c, r, (λ d u i. g _ _ (con_pat i (to_node e h))), m)
-      go false = λ w. let (c, r, g, m) = pat_on v k f (t ∷ a) o w in (c, r, (λ d u i. g _ _ (atpat_operand (vid_pat i))), m)

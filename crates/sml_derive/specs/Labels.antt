@@ -1,0 +1,39 @@
+-- Labels of records, and names that stand twice.
+use Rattle.std.specs.Prelude.{ℕ, suc, pos, Bool, true, false, not, ◌&&◌, ◌||◌, if◌then◌else◌, List, [], ◌∷◌, ◌++◌, count_by, nat_lt, nat_eq, int_lt}
+use Rattle.std.specs.List.{list_any}
+use Rattle.smlc_base.specs.declared.place.Place.{Place}
+use Rattle.smlc_base.specs.declared.refusal.Refusal.{Refusal}
+use Rattle.smlc_base.specs.declared.refusal.Refusal.TheVariants as refusal
+use Rattle.sml_tree.specs.declared.bare.Lab.{Lab}
+use Rattle.sml_tree.specs.declared.bare.Lab.TheVariants.{Num, Text}
+
+-- the first bytes stand before the second in a dictionary
+abbrev pub bytes_before : List ℕ → List ℕ → Bool
+bytes_before [] [] = false
+bytes_before [] (y ∷ t) = true
+bytes_before (x ∷ s) [] = false
+bytes_before (x ∷ s) (y ∷ t) = nat_lt x y || (nat_eq x y && bytes_before s t)
+
+-- the order of labels: numbers by value, then texts by their bytes
+abbrev pub lab_before : Lab → Lab → Bool
+lab_before (Num x) (Num y) = int_lt x y
+lab_before (Num x) (Text y) = true
+lab_before (Text x) (Num y) = false
+lab_before (Text x) (Text y) = bytes_before x y
+
+abbrev pub lab_eq : Lab → Lab → Bool
+lab_eq x y = not (lab_before x y || lab_before y x)
+
+-- the place of a label among the labels of a record
+abbrev pub slot : List Lab → Lab → ℕ
+slot labs lab = count_by (λ other. lab_before other lab) labs
+
+-- the labels 1, 2 and so on, from i + 1, one for each item
+abbrev pub numbers : {A : Type 0} → ℕ → List A → List Lab
+numbers i [] = []
+numbers i (x ∷ xs) = Num (pos (suc i)) ∷ numbers (suc i) xs
+
+-- the refusals at the items of which an equal one stands on their left, where those of `seen` do too
+abbrev pub doubles : {A : Type 0} → (A → A → Bool) → List A → List (A × Place) → List Refusal
+doubles eq seen [] = []
+doubles eq seen ((x, p) ∷ items) = (if list_any (eq x) seen then refusal.BadBinding p ∷ [] else []) ++ doubles eq (x ∷ seen) items

@@ -1,0 +1,13 @@
+pub mod Bare
+pub mod Bindings
+pub mod Clauses
+pub mod Expressions
+pub mod Forests
+pub mod Labels
+pub mod Makings
+pub mod Patterns
+pub mod Programs
+pub mod Scopes
+pub mod Terms
+pub mod TypeVariables
+pub mod Types

@@ -1,0 +1,106 @@
+-- Programs.
+use Rattle.std.specs.Prelude.{ℕ, suc, ◌+◌, Bool, true, false, ◌||◌, ◌&&◌, nat_lt, nat_eq, if◌then◌else◌, List, [], ◌∷◌, ◌++◌, Option, Some, None}
+use Rattle.smlc_base.specs.declared.place.Place.{Place}
+use Rattle.smlc_base.specs.declared.refusal.Refusal.{Refusal}
+use Rattle.smlc_base.specs.Refusals.{number_of, place_of}
+use Rattle.sml_tree.specs.declared.bare.Node.{Node}
+use Rattle.sml_tree.specs.declared.bare.Node.TheVariants as bare
+use Rattle.sml_derive.specs.Terms.{Term, place_at}
+use Rattle.sml_derive.specs.Forests.{Forest, none, tree, grown, size, numbered, places}
+use Rattle.sml_derive.specs.Scopes.{Scope, nothing, within}
+use Rattle.sml_derive.specs.Makings.{Made, nothing_made, Makes, gives, ◌>>=◌}
+use Rattle.sml_derive.specs.Bare.{nest}
+use Rattle.sml_derive.specs.Expressions.{decs}
+
+-- a top-level declaration: the place of its first token, its trees, and for each whether its variables are shown
+pub record Top : Type 0 where
+  pub place : Place
+  pub forest : Forest
+  pub shown : List Bool
+
+abbrev pub tops : Scope → List Term → Makes (List Top)
+tops s [] = gives []
+tops s (t ∷ terms) = do
+  x ← decs s t
+  rest ← tops (within s x.env) terms
+  gives (record { place = place_at t; forest = x.forest; shown = x.shown } ∷ rest)
+
+-- the place of the end: that of the last declaration
+abbrev pub last_place : Place → List Top → Place
+last_place p [] = p
+last_place p (t ∷ tops) = last_place t.place tops
+
+-- one nest of `Let` whose innermost part is the end
+abbrev pub program : Place → List Top → Forest
+program p [] = grown bare.Finish p none
+program p (t ∷ tops) = nest t.place t.forest (program p tops)
+
+-- how many nodes the declarations have with their `Let` nodes
+abbrev pub nested : Forest → ℕ
+nested none = 0
+nested (tree n p parts rest) = suc (suc (size parts)) + nested rest
+
+-- the outermost `Let` of each declaration that has one, where the first node has number i
+abbrev pub outermost : ℕ → Forest → List ℕ
+outermost i none = []
+outermost i (tree n p parts rest) = i ∷ []
+
+abbrev pub lets : ℕ → List Top → List ℕ
+lets i [] = []
+lets i (t ∷ tops) = outermost i t.forest ++ lets (i + nested t.forest) tops
+
+abbrev pub is_value : Node → Bool
+is_value (bare.Val vs bindings) = true
+is_value (bare.ValRec vs bindings) = true
+is_value _ = false
+
+-- the value declarations that are shown
+abbrev pub shown_in : ℕ → Forest → List Bool → List ℕ
+shown_in i (tree n p parts rest) (b ∷ shown) = (if b && is_value n then suc i ∷ [] else []) ++ shown_in (suc (suc (i + size parts))) rest shown
+shown_in i _ _ = []
+
+abbrev pub all_shown : ℕ → List Top → List ℕ
+all_shown i [] = []
+all_shown i (t ∷ tops) = shown_in i t.forest t.shown ++ all_shown (i + nested t.forest) tops
+
+-- Refusals by place, then by number.
+abbrev pub place_before : Place → Place → Bool
+place_before p q = nat_lt p.file q.file || (nat_eq p.file q.file && (nat_lt p.line q.line || (nat_eq p.line q.line && nat_lt p.col q.col)))
+
+abbrev pub same_place : Place → Place → Bool
+same_place p q = nat_eq p.file q.file && nat_eq p.line q.line && nat_eq p.col q.col
+
+abbrev pub refusal_before : Refusal → Refusal → Bool
+refusal_before r t = place_before (place_of r) (place_of t) || (same_place (place_of r) (place_of t) && nat_lt (number_of r) (number_of t))
+
+abbrev pub lesser : Refusal → Option Refusal → Refusal
+lesser r None = r
+lesser r (Some t) = if refusal_before t r then t else r
+
+abbrev pub least : List Refusal → Option Refusal
+least [] = None
+least (r ∷ refusals) = Some (lesser r (least refusals))
+
+-- What a program expands to.
+pub record Expansion : Type 0 where
+  pub nodes : List Node
+  pub places : List Place
+  pub decs : List ℕ
+  pub shown : List ℕ
+  pub made : Made
+
+abbrev pub no_place : Place
+no_place = record { file = 0; line = 1; col = 1 }
+
+abbrev pub expansion_of : List Top × Made → Expansion
+expansion_of r = record {
+  nodes = numbered 0 (program (last_place no_place r.0) r.0);
+  places = places (program (last_place no_place r.0) r.0);
+  decs = lets 0 r.0;
+  shown = all_shown 0 r.0;
+  made = r.1;
+}
+
+-- the expansion of the declarations of a program with these names
+abbrev pub expansion : List (List ℕ) → List Term → Expansion
+expansion names terms = expansion_of (tops (record { names = names; env = nothing; tyvars = [] }) terms nothing_made)

@@ -1,0 +1,8 @@
+//! From the parse tree to the bare tree: derived forms, the rules of bindings and the width.
+//!
+//! It stands on `sml_prelude`, `sml_tree` and `smlc_base`.
+#![tactic(auto)]
+
+pub mod meaning;
+
+pub use meaning::{Meaning, TypeMeaning};

@@ -1,0 +1,7 @@
+pub mod Unfold
+pub mod FreeParts
+pub mod FreeTable
+pub mod SetLemmas
+pub mod Members
+pub mod Walk
+pub mod SameParts
