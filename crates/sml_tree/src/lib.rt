@@ -8,9 +8,11 @@ pub mod free;
 pub mod points;
 mod sets;
 pub mod status;
+pub mod tree;
 pub mod tree_node;
 pub mod width;
 
 pub use bare::{Bare, Node};
 pub use status::Status;
+pub use tree::Tree;
 pub use tree_node::TreeNode;
