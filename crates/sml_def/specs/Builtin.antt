@@ -7,10 +7,10 @@ use Rattle.sml_tree.specs.declared.bare.Bare.{Bare}
 use Rattle.sml_tree.specs.declared.bare.LibraryExn.{LibraryExn}
 use Rattle.sml_tree.specs.declared.bare.LibraryExn.TheVariants as exn
 use Rattle.simulation.specs.Stores.{makes}
-use Rattle.sml_def.specs.Maybe.{◌>>=◌, or_else}
+use Rattle.sml_def.specs.Maybe.{◌>>=◌}
 use Rattle.sml_def.specs.State.{Value, Number, Letter, Nothing, Tag, Builtin, Library, At, Address, Block, Tuple, Applied, Text, Cell, Pending, Control, Ret, Raise, Eq, truth}
 use Rattle.sml_def.specs.Memory.{Memory, Next, going, making, making_all, assigning, writing}
-use Rattle.sml_def.specs.Match.{block_of, bytes_of, fields_of, tuple_block, applied_block, cell_block}
+use Rattle.sml_def.specs.Match.{block_of, bytes_of, fields_of, applied_block, cell_block}
 
 abbrev pub raising : LibraryExn → Option Address → Control
 raising e k = Raise (Library e) k

@@ -5,3 +5,8 @@ pub mod Match
 pub mod Builtin
 pub mod Step
 pub mod Run
+pub mod Words
+pub mod Sites
+pub mod Made
+pub mod Laws
+pub mod Closed

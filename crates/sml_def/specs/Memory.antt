@@ -1,7 +1,7 @@
 -- What a step does to the memory: it goes on, makes blocks, puts a new content into a cell, or writes.
-use Rattle.std.specs.Prelude.{ℕ, suc, List, [], ◌∷◌, Option, Some, None, length}
+use Rattle.std.specs.Prelude.{ℕ, List, [], ◌∷◌, Option, Some, length}
 use Rattle.simulation.specs.Stores.{Act, goes, tells, makes, puts}
-use Rattle.sml_def.specs.State.{Value, Address, Awaits, Block, Tuple, Applied, Cell, Frame, Control, Focus}
+use Rattle.sml_def.specs.State.{Value, Address, Awaits, Block, Cell, Frame, Control, Focus}
 
 -- what a step may read beside the control: the blocks, and the bytes of the input that are left
 pub record Memory : Type 0 where

@@ -9,7 +9,7 @@ use Rattle.simulation.specs.Runs.{Run, End}
 use Rattle.simulation.specs.Runs as runs
 use Rattle.simulation.specs.Machines.{run_from}
 use Rattle.simulation.specs.Stores.{StoreMachine, Configuration, machine_of}
-use Rattle.sml_def.specs.State.{Value, At, Env, Address, Awaits, FunctionPart, ArgumentPart, FieldPart, Subject, RightSide, RaisePart, Guarded, Block, Tuple, Applied, Text, Cell, ExnName, Packet, Closure, Frame, Pending, Ending, Normal, Uncaught, Control, Eval, Ret, Apply, Raise, Eq, End as Ended, Focus}
+use Rattle.sml_def.specs.State.{Value, At, Env, Address, Awaits, FunctionPart, ArgumentPart, FieldPart, Subject, RightSide, RaisePart, Guarded, Block, Tuple, Applied, Text, Cell, ExnName, Packet, Closure, Frame, Pending, Normal, Uncaught, Control, Eval, Ret, Apply, Raise, Eq, End as Ended, Focus}
 use Rattle.sml_def.specs.Step.{step}
 
 -- ---- What a block is seen as
