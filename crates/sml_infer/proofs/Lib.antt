@@ -1,2 +1,3 @@
 mod PlainSteps
 mod LibraryThere
+mod CopySteps

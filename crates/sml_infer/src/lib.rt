@@ -3,6 +3,8 @@
 //! It stands on `sml_types`, `sml_unify`, `sml_tree` and `smlc_base`. Its main contract: `non_expansive` answers for each node whether it is non-expansive.
 #![tactic(auto)]
 
+pub mod copy;
+pub mod given;
 pub mod library;
 pub mod plain;
 
