@@ -1,0 +1,5 @@
+pub mod Text
+pub mod Tasks
+pub mod Stacks
+pub mod Steps
+pub mod States

@@ -1,0 +1,11 @@
+//! The text in which the types of a program's names are shown.
+//!
+//! It stands on `sml_types`, `sml_tree` and `smlc_base`, and on `indexmap` and `itoa`. Its main contract: `lines` answers exactly the lines of the definition in `specs/Text.antt`.
+#![tactic(auto)]
+
+pub mod level;
+mod parts;
+mod work;
+mod written;
+
+pub use level::Level;
