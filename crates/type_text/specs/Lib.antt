@@ -1,4 +1,5 @@
 pub mod Text
+pub mod Entries
 pub mod Tasks
 pub mod Stacks
 pub mod Steps

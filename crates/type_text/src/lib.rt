@@ -5,7 +5,10 @@
 
 pub mod level;
 mod parts;
+mod show;
+mod text;
 mod work;
 mod written;
 
 pub use level::Level;
+pub use text::lines;
