@@ -21,3 +21,5 @@ mod turns;
 
 pub use parser::parse;
 
+#[cfg(test)]
+mod tests;
