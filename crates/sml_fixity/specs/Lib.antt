@@ -1,3 +1,11 @@
 pub mod Terminals
 pub mod Statuses
 pub mod Scopes
+pub mod Turns
+pub mod Stops
+pub mod Depth
+pub mod Nodes
+pub mod Citing
+pub mod Starting
+pub mod Banned
+pub mod Parse

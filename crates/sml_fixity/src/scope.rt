@@ -106,13 +106,13 @@ impl Scope {
     }
 
     /// Drops the directives from number `from` on that stand before number `to`.
-    pub fn drop_between(&mut self, alloc: Global, from: usize, to: usize) -> Result<(), NoMemory>
+    pub fn drop_between(&mut self, from: usize, to: usize) -> Result<(), NoMemory>
         ensures { OnOk result (self.new ≡ take from self.old ++ drop to self.old) }
     {
         if from == to {
             return Ok(());
         }
-        let kept = self.behind(alloc, to)?;
+        let kept = self.behind(to)?;
         self.cut(from);
         for directive in &kept {
             self.direct(directive.name, directive.status)?;
@@ -121,10 +121,10 @@ impl Scope {
     }
 
     // The directives from a number on.
-    fn behind(&self, alloc: Global, from: usize) -> Result<Vec<Directive>, NoMemory>
+    fn behind(&self, from: usize) -> Result<Vec<Directive>, NoMemory>
         ensures { IfOk result (λ r. r.items ≡ drop from self.now) }
     {
-        let mut kept = Vec::new(alloc);
+        let mut kept = Vec::new(*self.directives.allocator());
         for i in from..self.directives.len() {
             kept.push(self.directives[i])?;
         }
