@@ -5,7 +5,7 @@
 
 ghost use Rattle.sml_def.specs.Closed.{NamesNothingLost};
 ghost use Rattle.sml_def.specs.Cut.{EnvironmentsAreCut};
-ghost use Rattle.sml_def.specs.Laws.{RunsOnlyGrow};
+ghost use Rattle.sml_def.specs.Laws.{RunsOnlyGrow, PointsAscend};
 ghost use Rattle.sml_def.specs.Words.{ReachIsLeast};
 
 pub mod sites;
@@ -30,4 +30,9 @@ pub fn environments_are_cut()
 /// In each state of a run what is computed as reached is the least set that has the roots and is closed under fields.
 pub fn reach_is_least()
     ensures { ReachIsLeast }
+{}
+
+/// The points of a program stand in ascending order: by node, then by kind.
+pub fn points_ascend()
+    ensures { PointsAscend }
 {}
