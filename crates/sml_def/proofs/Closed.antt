@@ -1,5 +1,5 @@
 -- Every address that a state names has a block, after each step too.
-use Rattle.std.proofs.Common.{◌≡◌, ℕ, zero, suc, ◌+◌, ◌≤◌, Bool, true, false, List, [], ◌∷◌, ◌++◌, length, map, set, Option, Some, None, refl, sym, ap, ◌∙◌, subst, arith, length-append, length-set}
+use Rattle.std.proofs.Common.{◌≡◌, ℕ, zero, suc, ◌+◌, ◌≤◌, Bool, true, false, List, [], ◌∷◌, ◌++◌, length, map, Option, Some, None, refl, sym, ap, subst, arith, length-append}
 use Rattle.std.specs.Prelude.{IfSome, slice_get, zip, ℤ, pos, negsuc, ◌+ℤ◌, ◌-ℤ◌, ◌*ℤ◌, neg_ℤ, unsigned_abs, if◌then◌else◌, cond, nat_eq, nat_lt, take, drop}
 use Rattle.std.specs.List.{AllByRecursion, cons_option}
 use Rattle.std.specs.Option.{option_map}
@@ -17,8 +17,9 @@ use Rattle.sml_tree.specs.declared.bare.RecBinding.{RecBinding}
 use Rattle.sml_tree.specs.declared.bare.LibraryExn.TheVariants as exn
 use Rattle.sml_tree.specs.BareParts.{at_node, within}
 use Rattle.sml_tree.specs.Free.{free, binds, free_match, free_fields, free_rest}
-use Rattle.simulation.specs.Stores.{Effect, Append, Put, Act, all_affected, replaced, may_replace, configured, wrote, acted, machine_of}
+use Rattle.simulation.specs.Stores.{Act, acted, machine_of}
 use Rattle.simulation.proofs.Machines.{state_by}
+use Rattle.sml_def.proofs.Effects.{all_map, all_append, all_get, EffectHas, grown, grown_more, act_done}
 use Rattle.sml_def.specs.Maybe.{◌>>=◌, when, or_else}
 use Rattle.sml_def.specs.State.{Value, Number, Letter, Nothing, Tag, Builtin, Maker, RefMaker, Library, At, Env, Address, Awaits, FunctionPart, ArgumentPart, FieldPart, Subject, RightSide, RaisePart, Guarded, Block, Tuple, Applied, Text, Cell, ExnName, Packet, Closure, Frame, Pending, Uncaught, Control, Eval, Ret, Apply, Raise, Eq, End, Focus, look, cut}
 use Rattle.sml_def.specs.Memory.{Memory, Next, going, making, awaiting, making_all}
@@ -28,38 +29,13 @@ use Rattle.sml_def.specs.Closed.{InStore, NextIn, AllIn, EnvIn, AwaitsIn, BlockI
 use Rattle.sml_def.specs.Run.{State, view, source, start}
 use Rattle.sml_def.specs.Step.{by_label, count_up, eval_in, group_env, closure_of, closures, function_at, declare, eval_dec, eval_fields, eval_record, eval, by_rule, bind, resume, ret, apply_block, apply, exn_name, name_of, uncaught, raised_to, raised, compare, step}
 
--- how many blocks there are after these effects
-abbrev pub grown : ℕ → List (Effect Block) → ℕ
-grown n [] = n
-grown n (Append xs ∷ es) = grown (n + length xs) es
-grown n (Put a x ∷ es) = grown n es
-
--- the blocks of an effect name what is in a store of n blocks
-abbrev EffectIn : ℕ → Effect Block → Type 0
-EffectIn n (Append xs) = AllByRecursion (BlockIn n) xs
-EffectIn n (Put a x) = BlockIn n x
-
 -- what a step from n blocks does names what is then there
 pub record IsClosedAct (n : ℕ) (a : Act Focus Block) : Type 0 where
   pub control : ControlIn (grown n a.effects) a.next.control
-  pub effects : AllByRecursion (EffectIn (grown n a.effects)) a.effects
+  pub effects : AllByRecursion (EffectHas (BlockIn (grown n a.effects))) a.effects
 
 abbrev pub Good : Memory → Next → Type 0
 Good s o = IfSome o (IsClosedAct (length s.store))
-
--- a fact by recursion
-all_map : {A : Type 0} (P Q : A → Type 0) → ((x : A) → P x → Q x) → (xs : List A) → AllByRecursion P xs → AllByRecursion Q xs
-all_map P Q f [] h = tt
-all_map P Q f (x ∷ xs) h = (f x h.0, all_map P Q f xs h.1)
-
-all_append : {A : Type 0} (P : A → Type 0) (xs ys : List A) → AllByRecursion P xs → AllByRecursion P ys → AllByRecursion P (xs ++ ys)
-all_append P [] ys h g = g
-all_append P (x ∷ xs) ys h g = (h.0, all_append P xs ys h.1 g)
-
-all_get : {A : Type 0} (P : A → Type 0) (xs : List A) (i : ℕ) → AllByRecursion P xs → IfSome (slice_get xs i) P
-all_get P [] i h = tt
-all_get P (x ∷ xs) zero h = h.0
-all_get P (x ∷ xs) (suc i) h = all_get P xs i h.1
 
 -- what is named in a store is named in a larger one
 module _ (n m : ℕ) (le : n ≤ m) where
@@ -570,62 +546,15 @@ module _ (p : Bare) (s : Memory) (closed : AllByRecursion (BlockIn (length s.sto
   step_good (Eq (Some a) t k) h = compare_good (slice_get s.store a) t k (all_get (BlockIn (length s.store)) s.store a closed) h.1
   step_good (End e) h = tt
 
--- ---- What is done to the store
-
-all_set : {A : Type 0} (P : A → Type 0) (xs : List A) (i : ℕ) (x : A) → AllByRecursion P xs → P x → AllByRecursion P (set xs i x)
-all_set P [] i x h g = tt
-all_set P (y ∷ xs) zero x h g = (g, h.1)
-all_set P (y ∷ xs) (suc i) x h g = (h.0, all_set P xs i x h.1 g)
-
-none_affected : (es : List (Effect Block)) → all_affected view None es ≡ None
-none_affected [] = refl
-none_affected (e ∷ es) = none_affected es
-
--- each block names what is there in the end
-module _ (N : ℕ) where
-  abbrev Done : ℕ → List (Effect Block) → List Block → Type 0
-  Done n es ys = (length ys ≡ grown n es) × AllByRecursion (BlockIn N) ys
-
-  put_done : (store ys : List Block) (a : ℕ) (x : Block) (es : List (Effect Block)) (o : Option Block) → AllByRecursion (BlockIn N) store → BlockIn N x → ((zs : List Block) → length zs ≡ length store → AllByRecursion (BlockIn N) zs → all_affected view (Some zs) es ≡ Some ys → Done (length store) es ys) → all_affected view (replaced view store a x o) es ≡ Some ys → Done (length store) es ys
-  put_done store ys a x es None h hx on e = absurd (let n = none_affected es in cc)
-  put_done store ys a x es (Some old) h hx on e = go (may_replace (view old) (view x)) e
-    where
-      go : (t : Bool) → all_affected view (cond t (Some (set store a x)) None) es ≡ Some ys → Done (length store) es ys
-      go true e = on (set store a x) (length-set store a x) (all_set (BlockIn N) store a x h hx) e
-      go false e = absurd (let n = none_affected es in cc)
-
-  all_done : (es : List (Effect Block)) (store ys : List Block) → AllByRecursion (BlockIn N) store → AllByRecursion (EffectIn N) es → all_affected view (Some store) es ≡ Some ys → Done (length store) es ys
-  all_done [] store ys h g e =
-      let same : store ≡ ys = cc in
-      (ap length (sym same), subst (AllByRecursion (BlockIn N)) same h)
-  all_done (Append xs ∷ es) store ys h g e =
-      let r = all_done es (store ++ xs) ys (all_append (BlockIn N) store xs h g.0) g.1 e in
-      (r.0 ∙ ap (λ n. grown n es) (length-append store xs), r.1)
-  all_done (Put a x ∷ es) store ys h g e =
-      put_done store ys a x es (slice_get store a) h g.0 (λ zs len hz ez. let r = all_done es zs ys hz g.1 ez in (r.0 ∙ ap (λ n. grown n es) len, r.1)) e
-
-grown_more : (n : ℕ) (es : List (Effect Block)) → n ≤ grown n es
-grown_more n [] = omega arith
-grown_more n (Append xs ∷ es) = omega (arith, grown_more (n + length xs) es)
-grown_more n (Put a x ∷ es) = grown_more n es
-
 act_closed : (s t : State) (a : Act Focus Block) → IsClosed s → IsClosedAct (length s.store) a → acted view s.out s.store (Some a) ≡ Some t → IsClosed t
-act_closed s t a h g e = go (all_affected view (Some s.store) a.effects) refl e
-  where
-    go : (o : Option (List Block)) → all_affected view (Some s.store) a.effects ≡ o → configured a.next (wrote s.out a.told) o ≡ Some t → IsClosed t
-    go None f e = absurd cc
-    go (Some ys) f e =
-        let n = grown (length s.store) a.effects in
-        let d = all_done n a.effects s.store ys (all_map (BlockIn (length s.store)) (BlockIn n) (block_up (length s.store) n (grown_more (length s.store) a.effects)) s.store h.store) g.effects f in
-        let made : State = record { control = a.next; out = wrote s.out a.told; store = ys } in
-        let same : made ≡ t = cc in
-        subst
-        IsClosed
-        same
-        (record {
-          control = subst (λ m. ControlIn m a.next.control) (sym d.0) g.control;
-          store = subst (λ m. AllByRecursion (BlockIn m) ys) (sym d.0) d.1;
-        })
+act_closed s t a h g e =
+    let n = grown (length s.store) a.effects in
+    let up = all_map (BlockIn (length s.store)) (BlockIn n) (block_up (length s.store) n (grown_more (length s.store) a.effects)) s.store h.store in
+    let d = act_done (BlockIn n) s t a up g.effects e in
+    record {
+      control = subst (λ m. ControlIn m t.control.control) (sym d.len) (subst (λ f. ControlIn n f.control) (sym d.control) g.control);
+      store = subst (λ m. AllByRecursion (BlockIn m) t.store) (sym d.len) d.store;
+    }
 
 step_closed : (p : Bare) (s t : State) → IsClosed s → (machine_of (source p)).step s ≡ Some t → IsClosed t
 step_closed p s t h e =

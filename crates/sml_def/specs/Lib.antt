@@ -10,3 +10,4 @@ pub mod Sites
 pub mod Made
 pub mod Laws
 pub mod Closed
+pub mod Cut

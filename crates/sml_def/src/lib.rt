@@ -4,7 +4,9 @@
 #![tactic(auto)]
 
 ghost use Rattle.sml_def.specs.Closed.{NamesNothingLost};
-ghost use Rattle.sml_def.specs.Laws.{RunsOnlyGrow};
+ghost use Rattle.sml_def.specs.Cut.{EnvironmentsAreCut};
+ghost use Rattle.sml_def.specs.Laws.{RunsOnlyGrow, PointsAscend};
+ghost use Rattle.sml_def.specs.Words.{ReachIsLeast};
 
 pub mod sites;
 
@@ -18,4 +20,19 @@ pub fn runs_only_grow()
 /// In each state of a run each address that is named has a block.
 pub fn names_nothing_lost()
     ensures { NamesNothingLost }
+{}
+
+/// In each state of a run each environment has the free variables of what it is for, and no others.
+pub fn environments_are_cut()
+    ensures { EnvironmentsAreCut }
+{}
+
+/// In each state of a run what is computed as reached is the least set that has the roots and is closed under fields.
+pub fn reach_is_least()
+    ensures { ReachIsLeast }
+{}
+
+/// The points of a program stand in ascending order: by node, then by kind.
+pub fn points_ascend()
+    ensures { PointsAscend }
 {}

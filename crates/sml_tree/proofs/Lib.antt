@@ -7,3 +7,4 @@ pub mod Walk
 pub mod SameParts
 pub mod Programs
 mod Worked
+pub mod Ascends

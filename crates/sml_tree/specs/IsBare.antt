@@ -1,5 +1,5 @@
 -- What a bare tree keeps.
-use Rattle.std.specs.Prelude.{◌≡◌, ℕ, suc, ◌+◌, ◌^◌, ◌<◌, ◌≤◌, ℤ, pos, negsuc, Bool, true, false, cond, nat_eq, List, [], ◌∷◌, ◌++◌, Option, Some, None, length, map, flat_map, filter, count_by, sum_by, slice_get, unwrap_or, nat_lt, int_lt, ◌||◌, ◌&&◌}
+use Rattle.std.specs.Prelude.{◌≡◌, ℕ, suc, ◌+◌, ◌^◌, ◌<◌, ◌≤◌, ℤ, pos, negsuc, Bool, true, false, cond, nat_eq, List, [], ◌∷◌, ◌++◌, Option, Some, None, length, map, flat_map, filter, count_by, slice_get, unwrap_or, nat_lt, int_lt, ◌||◌, ◌&&◌}
 use Rattle.std.specs.List.{AllByRecursion}
 use Rattle.std.specs.Option.{is_some}
 use Rattle.sml_tree.specs.declared.bare.Bare.{Bare}
@@ -20,9 +20,16 @@ use Rattle.sml_tree.specs.Width.{width}
 
 -- ---- Order
 
+abbrev pub sum_of : (ℕ → ℕ) → List ℕ → ℕ
+sum_of f [] = 0
+sum_of f (c ∷ cs) = f c + sum_of f cs
+
+abbrev pub size_of : (ℕ → ℕ) → ℕ → Node → ℕ
+size_of part i n = suc (sum_of part (node_parts n))
+
 -- how many nodes a node is, with its parts and theirs
 abbrev pub size : List Node → ℕ → ℕ
-size = from_parts 0 (λ part i n. suc (sum_by part (node_parts n)))
+size = from_parts 0 size_of
 
 -- the parts stand one behind the other, the first at j
 abbrev pub InRow : (ℕ → ℕ) → ℕ → List ℕ → Type 0

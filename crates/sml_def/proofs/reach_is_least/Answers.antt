@@ -1,0 +1,5 @@
+use Rattle.sml_def.proofs.Reaches as reaches
+use Rattle.sml_def.proofs.reach_is_least.Goals as goal
+
+pub returns : goal.returns
+returns c = reaches.reach_is_least
