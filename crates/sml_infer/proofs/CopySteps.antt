@@ -133,7 +133,7 @@ given_later old forms given v None l h = refl
 given_later old forms given v (Some g) l h = l.trees g.ty.0 (h g refl)
 
 -- what is given keeps its type
-same_given : (old forms : List TyForm) (given : List Given) (t : Tree) → IsLonger old forms → AreGiven old given → inst (given_types forms given) t ≡ inst (given_types old given) t
+pub same_given : (old forms : List TyForm) (given : List Given) (t : Tree) → IsLonger old forms → AreGiven old given → inst (given_types forms given) t ≡ inst (given_types old given) t
 same_given old forms given t l h =
     inst_same (given_types forms given) (given_types old given) t (λ v o. given_later old forms given v (find (λ g. nat_eq g.num v.num) given) l (λ g e. found_there (λ x. x.ty.0 < length old) (λ x. nat_eq x.num v.num) given g h e))
 
@@ -144,14 +144,14 @@ not_true false h = refl
 before : (first : ℕ) (copies : List Ty) (c : ℕ) → c < first → moved first copies c ≡ c
 before first copies c l = ap (λ b. (cond b (place c) (get_or copies (c - first) (place c))).0) (lt-ltb c first l)
 
-at_place : (first : ℕ) (copies : List Ty) (c : ℕ) → first ≤ c → moved first copies c ≡ (get_or copies (c - first) (place c)).0
+pub at_place : (first : ℕ) (copies : List Ty) (c : ℕ) → first ≤ c → moved first copies c ≡ (get_or copies (c - first) (place c)).0
 at_place first copies c l = ap (λ b. (cond b (place c) (get_or copies (c - first) (place c))).0) (not_true (nat_lt c first) (λ t. let m = ltb-true c first t in omega arith))
 
 get_last : (xs : List Ty) (y d : Ty) → get_or (xs ++ y ∷ []) (length xs) d ≡ y
 get_last [] y d = refl
 get_last (x ∷ xs) y d = get_last xs y d
 
-known_at : {A : Type 0} (xs : List A) (i : ℕ) → i < length xs → (x : A) × (slice_get xs i ≡ Some x)
+pub known_at : {A : Type 0} (xs : List A) (i : ℕ) → i < length xs → (x : A) × (slice_get xs i ≡ Some x)
 known_at [] i l = absurd (omega arith)
 known_at (x ∷ xs) zero l = (x, refl)
 known_at (x ∷ xs) (suc i) l = known_at xs i (omega arith)

@@ -1,3 +1,4 @@
 mod PlainSteps
 mod LibraryThere
 mod CopySteps
+mod InstanceSteps
