@@ -20,6 +20,10 @@ use Rattle.sml_infer.specs.Copies.{given_types, given_tree, place, moved, IsClos
 use Rattle.sml_infer.specs.Instances.{AreBelow, IsNewVar, AreNewVars, IsShared, IsFreshCopy}
 use Rattle.sml_infer.proofs.CopySteps.{found_there, known_at, some_eq, at_place, same_given}
 
+get_at_end : (xs : List TyForm) (f : TyForm) → slice_get (xs ++ f ∷ []) (length xs) ≡ Some f
+get_at_end [] f = refl
+get_at_end (x ∷ xs) f = get_at_end xs f
+
 -- a form of a longer list is an old one or the last
 last_form : {A : Type 0} (P : A → Type 0) (xs : List A) (y : A) (i : ℕ) (x : A) → slice_get (xs ++ y ∷ []) i ≡ Some x → (slice_get xs i ≡ Some x → P x) → (y ≡ x → P x) → P x
 last_form P [] y zero x e f g = g (let same : y ≡ x = cc in same)
@@ -34,11 +38,14 @@ below_more forms v next b l i w e =
 pub below_up : (forms : List TyForm) (n m : ℕ) → n ≤ m → AreBelow forms n → AreBelow forms m
 below_up forms n m l b i v e = let k = b i v e in omega arith
 
+pub last_there : (forms : List TyForm) (f : TyForm) (i : ℕ) → i ≡ length forms → slice_get (forms ++ f ∷ []) i ≡ Some f
+last_there forms f i e = ap (slice_get (forms ++ f ∷ [])) e ∙ get_at_end forms f
+
 pub new_var : (forms : List TyForm) (v : TyVar) (t : Ty) → t.0 ≡ length forms → tree (forms ++ Var v ∷ []) t.0 ≡ Variable v
 new_var forms v t e = ap (tree (forms ++ Var v ∷ [])) e ∙ tree_new forms (Var v)
 
 new_longer : (next : ℕ) (eq : Bool) (forms after : List TyForm) (t : Ty) → IsLonger forms after → IsNewVar next eq forms t → IsNewVar next eq after t
-new_longer next eq forms after t l n = record { num = n.num; above = n.above; there = (let a = n.there in let b = l.count in omega arith); is = l.trees t.0 n.there ∙ n.is }
+new_longer next eq forms after t l n = record { num = n.num; above = n.above; there = (let a = n.there in let b = l.count in omega arith); form = l.keeps t.0 (Var (record { num = n.num; eq = eq })) n.form; is = l.trees t.0 n.there ∙ n.is }
 
 -- new variables stay new
 pub news_longer : (next : ℕ) (vs : List TyVar) (forms after : List TyForm) (given : List Given) → IsLonger forms after → AreNewVars next vs forms given → AreNewVars next vs after given
@@ -49,7 +56,7 @@ news_longer next (v ∷ vs) forms after (g ∷ given) l n = (n.0, new_longer nex
 
 -- one more
 pub news_more : (first next : ℕ) (vs : List TyVar) (v : TyVar) (forms : List TyForm) (given : List Given) (g : Given) → first ≤ next → AreNewVars first vs forms given → g.num ≡ v.num → IsNewVar next v.eq forms g.ty → AreNewVars first (vs ++ v ∷ []) forms (given ++ g ∷ [])
-news_more first next [] v forms [] g l n e new = (e, record { num = new.num; above = (let a = new.above in omega arith); there = new.there; is = new.is }, tt)
+news_more first next [] v forms [] g l n e new = (e, record { num = new.num; above = (let a = new.above in omega arith); there = new.there; form = new.form; is = new.is }, tt)
 news_more first next [] v forms (h ∷ given) g l n e new = absurd n
 news_more first next (w ∷ vs) v forms [] g l n e new = absurd n
 news_more first next (w ∷ vs) v forms (h ∷ given) g l n e new = (n.0, n.1, news_more first next vs v forms given g l n.2 e new)
@@ -75,7 +82,7 @@ all_nums : (P Q : Given → Type 0) (given : List Given) → ((g : Given) → P 
 all_nums P Q [] f h = tt
 all_nums P Q (g ∷ given) f h = (f g h.0, all_nums P Q given f h.1)
 
-news_nums : (next : ℕ) (vs : List TyVar) (forms : List TyForm) (given : List Given) → AreNewVars next vs forms given → AllByRecursion (λ g. has_num vs g.num ≡ true) given
+pub news_nums : (next : ℕ) (vs : List TyVar) (forms : List TyForm) (given : List Given) → AreNewVars next vs forms given → AllByRecursion (λ g. has_num vs g.num ≡ true) given
 news_nums next [] forms [] n = tt
 news_nums next [] forms (g ∷ given) n = absurd n
 news_nums next (v ∷ vs) forms [] n = absurd n
@@ -85,7 +92,7 @@ news_nums next (v ∷ vs) forms (g ∷ given) n = (
 )
 
 -- nothing is given for other variables
-fixed : (forms : List TyForm) (vs : List TyVar) (given : List Given) (v : TyVar) (o : Option Given) → AllByRecursion (λ g. has_num vs g.num ≡ true) given → (has_num vs v.num ≡ true → ⊥) → find (λ g. nat_eq g.num v.num) given ≡ o → given_tree forms v o ≡ Variable v
+pub fixed : (forms : List TyForm) (vs : List TyVar) (given : List Given) (v : TyVar) (o : Option Given) → AllByRecursion (λ g. has_num vs g.num ≡ true) given → (has_num vs v.num ≡ true → ⊥) → find (λ g. nat_eq g.num v.num) given ≡ o → given_tree forms v o ≡ Variable v
 fixed forms vs given v None h n e = refl
 fixed forms vs given v (Some g) h n e =
     let same = eqb-true g.num v.num (found_test (λ x. nat_eq x.num v.num) given g e) in

@@ -2,3 +2,4 @@ mod PlainSteps
 mod LibraryThere
 mod CopySteps
 mod InstanceSteps
+mod InstanceLaw

@@ -2,7 +2,8 @@
 
 ghost use Rattle.std.specs.Prelude.{◌≡◌, ◌<◌, ◌≤◌, length, IfOk};
 ghost use Rattle.sml_unify.specs.Steps.{IsLonger};
-ghost use Rattle.sml_infer.specs.Instances.{AreBelow, IsNewVar, AreNewVars, IsShared, IsFreshCopy};
+ghost use Rattle.sml_infer.specs.Instances.{AreBelow, IsNewVar, AreNewVars, IsShared, IsFreshCopy, InstancesAlways};
+ghost use Rattle.sml_types.specs.Forms.{tree};
 
 use crate::copy::copy;
 use crate::given::Given;
@@ -62,6 +63,8 @@ pub fn instance(
     requires below { AreBelow types.old next.old }
     requires shared { IsShared types.old vars.now from body.0 }
     ensures ok { IfOk result (λ t. IsFreshCopy types.old next.old vars.now body.0 types.new t) }
+    ensures always { IfOk result (λ t. InstancesAlways vars.now (tree types.old body.0) types.new t.0) }
+    ensures below { AreBelow types.new next.new }
     ensures longer { IsLonger types.old types.new }
 {
     if body.0 == u32::MAX {

@@ -5,7 +5,7 @@ use Rattle.sml_types.specs.declared.types.TyForm.TheVariants.{Var}
 use Rattle.sml_unify.specs.Steps.{IsLonger}
 use Rattle.sml_infer.specs.Instances.{AreBelow, IsNewVar}
 use Rattle.sml_infer.proofs.CopySteps.{longer_by_one}
-use Rattle.sml_infer.proofs.InstanceSteps.{below_more, below_up, new_var}
+use Rattle.sml_infer.proofs.InstanceSteps.{below_more, below_up, new_var, last_there}
 use Rattle.sml_infer.proofs.instance.fresh_var.Goals as goal
 
 pub returns-clause-ok : goal.returns-clause-ok
@@ -16,7 +16,7 @@ returns-clause-ok c =
     subst
     (λ (forms : List TyForm). IsNewVar c.args.next.now c.args.eq forms c.in_ok-ty.ty)
     (sym grown)
-    (record { num = c.args.next.now; above = omega arith; there = omega (arith, at, length-append c.args.types.now (Var v ∷ [])); is = new_var c.args.types.now v c.in_ok-ty.ty at })
+    (record { num = c.args.next.now; above = omega arith; there = omega (arith, at, length-append c.args.types.now (Var v ∷ [])); form = last_there c.args.types.now (Var v) c.in_ok-ty.ty.0 at; is = new_var c.args.types.now v c.in_ok-ty.ty at })
 
 pub returns-clause-below : goal.returns-clause-below
 returns-clause-below c =

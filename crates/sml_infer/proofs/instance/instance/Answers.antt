@@ -2,6 +2,7 @@ use Rattle.std.proofs.Common.{◌+◌, List, sym, subst}
 use Rattle.sml_infer.specs.declared.given.Given.{Given}
 use Rattle.sml_infer.specs.Copies.{AreGiven, IsClosed, AreCopied}
 use Rattle.sml_infer.proofs.InstanceSteps.{news_there, closed_given, fresh_copy}
+use Rattle.sml_infer.proofs.InstanceLaw.{instances_always}
 use Rattle.sml_infer.proofs.instance.instance.Goals as goal
 
 pub copy-requires-clause-given : goal.copy-requires-clause-given
@@ -34,3 +35,12 @@ returns-clause-ok c =
     c.requires.there
     (subst (λ (given : List Given). AreCopied c.fresh_vars.new.types given c.args.from (c.args.body.0 + 1) c.copy.new.types c.in_ok-copies.copies.items) c.deref.ensures.value c.in_ok-copies.ensures.ok)
     c.index.ensures
+
+pub returns-clause-always : goal.returns-clause-always
+returns-clause-always c = instances_always c.args.types.now c.args.next.now c.args.vars.now c.args.body.0 c.copy.new.types c.index.result.now (returns-clause-ok c)
+
+pub returns-in_err-copies-clause-below : goal.returns-in_err-copies-clause-below
+returns-in_err-copies-clause-below c i v e = c.in_ok-given.ensures.below i v (c.copy.ensures.vars i v e)
+
+pub returns-clause-below : goal.returns-clause-below
+returns-clause-below c i v e = c.in_ok-given.ensures.below i v (c.copy.ensures.vars i v e)
