@@ -17,7 +17,10 @@ use Rattle.sml_types.proofs.TreeFacts.{inst_same}
 use Rattle.sml_types.proofs.FormFacts.{all_mono, tree_more}
 use Rattle.sml_unify.specs.Steps.{IsLonger}
 use Rattle.sml_infer.specs.declared.given.Given.{Given}
-use Rattle.sml_infer.specs.Copies.{moved_ty, moved_fields, moved_form, place, moved, given_ty, given_tree, given_types, AreGiven, ArePartsCopied, IsClosed, AreCopied}
+use Rattle.sml_infer.specs.Copies.{moved_ty, moved_fields, moved_form, place, moved, given_ty, given_tree, given_types, AreGiven, ArePartsCopied, IsClosed, AreCopied, AreOldVars}
+
+pub some_eq : {A : Type 0} (x y : A) → Some x ≡ Some y → x ≡ y
+some_eq x y e = cc
 
 -- ---- The form of the copies of a form's parts
 
@@ -120,6 +123,17 @@ pub pushed : (old new : List TyForm) (form : TyForm) (r : Result Ty NoMemory) �
 pushed old new form (Ok t) h e = subst (IsLonger old) (sym h.1) (longer_by_one old form)
 pushed old new form (Err x) h e = subst (IsLonger old) (sym e) (record { count = omega arith; keeps = λ i f q. q; trees = λ i l. refl })
 
+last_var : (old : List TyForm) (form : TyForm) (i : ℕ) (v : TyVar) → ((w : TyVar) → form ≡ Var w → ⊥) → slice_get (old ++ form ∷ []) i ≡ Some (Var v) → slice_get old i ≡ Some (Var v)
+last_var [] form zero v n e = absurd (n v (some_eq form (Var v) e))
+last_var [] form (suc i) v n e = cc
+last_var (f ∷ old) form zero v n e = e
+last_var (f ∷ old) form (suc i) v n e = last_var old form i v n e
+
+-- a form that is no variable brings none
+pub pushed_vars : (old new : List TyForm) (form : TyForm) (r : Result Ty NoMemory) → ((w : TyVar) → form ≡ Var w → ⊥) → IfOk r (λ t. (t.0 ≡ length old) × (new ≡ old ++ form ∷ [])) → OnErr r (new ≡ old) → AreOldVars old new
+pushed_vars old new form (Ok t) n h e i v q = last_var old form i v n (ap (λ fs. slice_get fs i) (sym h.1) ∙ q)
+pushed_vars old new form (Err x) n h e i v q = ap (λ fs. slice_get fs i) (sym e) ∙ q
+
 -- the form that is put last means this type
 pub pushed_means : (old new : List TyForm) (form : TyForm) (u : Tree) (r : Result Ty NoMemory) → IfOk r (λ t. (t.0 ≡ length old) × (new ≡ old ++ form ∷ [])) → IfOk r (λ t. tree new t.0 ≡ form_tree (tree old) form) → form_tree (tree old) form ≡ u → IfOk r (λ t. (t.0 < length new) × (tree new t.0 ≡ u))
 pushed_means old new form u (Ok t) h m e =
@@ -133,7 +147,7 @@ given_later old forms given v None l h = refl
 given_later old forms given v (Some g) l h = l.trees g.ty.0 (h g refl)
 
 -- what is given keeps its type
-same_given : (old forms : List TyForm) (given : List Given) (t : Tree) → IsLonger old forms → AreGiven old given → inst (given_types forms given) t ≡ inst (given_types old given) t
+pub same_given : (old forms : List TyForm) (given : List Given) (t : Tree) → IsLonger old forms → AreGiven old given → inst (given_types forms given) t ≡ inst (given_types old given) t
 same_given old forms given t l h =
     inst_same (given_types forms given) (given_types old given) t (λ v o. given_later old forms given v (find (λ g. nat_eq g.num v.num) given) l (λ g e. found_there (λ x. x.ty.0 < length old) (λ x. nat_eq x.num v.num) given g h e))
 
@@ -144,20 +158,17 @@ not_true false h = refl
 before : (first : ℕ) (copies : List Ty) (c : ℕ) → c < first → moved first copies c ≡ c
 before first copies c l = ap (λ b. (cond b (place c) (get_or copies (c - first) (place c))).0) (lt-ltb c first l)
 
-at_place : (first : ℕ) (copies : List Ty) (c : ℕ) → first ≤ c → moved first copies c ≡ (get_or copies (c - first) (place c)).0
+pub at_place : (first : ℕ) (copies : List Ty) (c : ℕ) → first ≤ c → moved first copies c ≡ (get_or copies (c - first) (place c)).0
 at_place first copies c l = ap (λ b. (cond b (place c) (get_or copies (c - first) (place c))).0) (not_true (nat_lt c first) (λ t. let m = ltb-true c first t in omega arith))
 
 get_last : (xs : List Ty) (y d : Ty) → get_or (xs ++ y ∷ []) (length xs) d ≡ y
 get_last [] y d = refl
 get_last (x ∷ xs) y d = get_last xs y d
 
-known_at : {A : Type 0} (xs : List A) (i : ℕ) → i < length xs → (x : A) × (slice_get xs i ≡ Some x)
+pub known_at : {A : Type 0} (xs : List A) (i : ℕ) → i < length xs → (x : A) × (slice_get xs i ≡ Some x)
 known_at [] i l = absurd (omega arith)
 known_at (x ∷ xs) zero l = (x, refl)
 known_at (x ∷ xs) (suc i) l = known_at xs i (omega arith)
-
-pub some_eq : {A : Type 0} (x y : A) → Some x ≡ Some y → x ≡ y
-some_eq x y e = cc
 
 both_all : (P Q R : ℕ → Type 0) (is : List ℕ) → ((i : ℕ) → P i → Q i → R i) → AllByRecursion P is → AllByRecursion Q is → AllByRecursion R is
 both_all P Q R [] f p q = tt

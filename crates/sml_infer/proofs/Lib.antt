@@ -1,3 +1,5 @@
 mod PlainSteps
 mod LibraryThere
 mod CopySteps
+mod InstanceSteps
+mod InstanceLaw

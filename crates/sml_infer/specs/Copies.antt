@@ -63,3 +63,7 @@ pub record AreCopied (old : List TyForm) (given : List Given) (first i : ℕ) (f
   pub longer : IsLonger old forms
   pub count : first + length copies ≡ i
   pub copied : (k : ℕ) → first ≤ k → k < i → (moved first copies k < length forms) × (tree forms (moved first copies k) ≡ inst (given_types old given) (tree old k))
+
+-- all variables of the later forms are old ones
+abbrev pub AreOldVars : List TyForm → List TyForm → Type 0
+AreOldVars old forms = (i : ℕ) (v : TyVar) → slice_get forms i ≡ Some (Var v) → slice_get old i ≡ Some (Var v)

@@ -1,3 +1,4 @@
 pub mod Plain
 pub mod LibraryRows
 pub mod Copies
+pub mod Instances

@@ -6,7 +6,7 @@ ghost use Rattle.sml_types.specs.declared.types.TyForm.{TyForm};
 ghost use Rattle.sml_types.specs.Tree.{inst};
 ghost use Rattle.sml_types.specs.Forms.{tree, parts_of};
 ghost use Rattle.sml_unify.specs.Steps.{IsLonger};
-ghost use Rattle.sml_infer.specs.Copies.{moved, moved_ty, moved_fields, moved_form, given_types, AreGiven, given_ty, ArePartsCopied, IsClosed, AreCopied};
+ghost use Rattle.sml_infer.specs.Copies.{moved, moved_ty, moved_fields, moved_form, given_types, AreGiven, given_ty, ArePartsCopied, IsClosed, AreCopied, AreOldVars};
 
 use crate::given::Given;
 use sml_tree::bare::Lab;
@@ -107,6 +107,7 @@ fn copy_form(
     requires parts { (form : TyForm) → slice_get types.old at ≡ Some form → ArePartsCopied types.old given.now from copies.now form }
     ensures ok { IfOk result (λ t. (t.0 < length types.new) × (tree types.new t.0 ≡ inst (given_types types.old given.now) (tree types.old at))) }
     ensures longer { IsLonger types.old types.new }
+    ensures vars { AreOldVars types.old types.new }
 {
     // Opens the invariant of the types.
     let _ = &types.forms;
@@ -134,6 +135,7 @@ pub fn copy(
     requires closed { IsClosed types.old given.now from to }
     ensures ok { IfOk result (λ copies. AreCopied types.old given.now from to types.new copies.items) }
     ensures longer { IsLonger types.old types.new }
+    ensures vars { AreOldVars types.old types.new }
 {
     // Opens the invariant of the types.
     let _ = &types.forms;

@@ -1,10 +1,11 @@
-//! Type inference: the parts that stand so far.
+//! Parts of type inference: what may be generalised, the types of the library, and instances of types with variables.
 //!
-//! It stands on `sml_types`, `sml_unify`, `sml_tree` and `smlc_base`. Its main contract: `non_expansive` answers for each node whether it is non-expansive.
+//! It stands on `sml_types`, `sml_unify`, `sml_tree` and `smlc_base`. Its main contract: `instance` answers a copy of a type with new variables that, under each substitution that keeps the marks, is an instance of the scheme.
 #![tactic(auto)]
 
 pub mod copy;
 pub mod given;
+pub mod instance;
 pub mod library;
 pub mod plain;
 

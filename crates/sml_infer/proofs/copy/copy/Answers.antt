@@ -20,7 +20,7 @@ copy_form-requires-clause-parts c form e =
     (subst IsNumbered c.types.view_is c.types.invariant.numbered)
     c.requires.given
     c.requires.closed
-    c.forms.invariant
+    c.forms.invariant.copied
     c.forms.auto.at
     c.forms-test.true
     c.requires.there
@@ -31,7 +31,11 @@ pub forms-preserved : goal.forms-preserved
 forms-preserved c =
     let there = c.requires.there in
     let below = c.forms-test.true in
-    subst
-    (λ (copies : List Ty). AreCopied c.args.types.now c.args.given.now c.args.from (c.forms.at + 1) c.copy_form.new.types copies)
-    (sym c.in_ok-push.ensures.items)
-    (next_copied c.args.types.now c.args.given.now c.args.from c.forms.at c.forms.types c.copy_form.new.types c.forms.copies.items c.in_ok-copy.copy c.forms.invariant c.in_ok-copy.ensures.longer c.requires.given (omega arith) c.in_ok-copy.ensures.ok)
+    record {
+      copied =
+          subst
+          (λ (copies : List Ty). AreCopied c.args.types.now c.args.given.now c.args.from (c.forms.at + 1) c.copy_form.new.types copies)
+          (sym c.in_ok-push.ensures.items)
+          (next_copied c.args.types.now c.args.given.now c.args.from c.forms.at c.forms.types c.copy_form.new.types c.forms.copies.items c.in_ok-copy.copy c.forms.invariant.copied c.in_ok-copy.ensures.longer c.requires.given (omega arith) c.in_ok-copy.ensures.ok);
+      vars = λ i v e. c.forms.invariant.vars i v (c.in_ok-copy.ensures.vars i v e);
+    }

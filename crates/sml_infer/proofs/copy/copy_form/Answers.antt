@@ -3,7 +3,7 @@ use Rattle.std.specs.List.{AllByRecursion, find}
 use Rattle.sml_types.specs.Tree.{inst}
 use Rattle.sml_types.specs.Forms.{tree, form_tree, parts_of}
 use Rattle.sml_infer.specs.Copies.{given_types}
-use Rattle.sml_infer.proofs.CopySteps.{given_there, found_there, parts_there, not_var, form_copied, pushed, pushed_means, some_eq}
+use Rattle.sml_infer.proofs.CopySteps.{given_there, found_there, parts_there, not_var, form_copied, pushed, pushed_vars, pushed_means, some_eq}
 use Rattle.sml_infer.proofs.copy.copy_form.Goals as goal
 
 pub returns-in-Some-clause-ok : goal.returns-in-Some-clause-ok
@@ -33,4 +33,5 @@ returns c =
     record {
       ok = pushed_means c.args.types.now c.push.new.self c.in_ok-form.form (inst (given_types c.args.types.now c.args.given.now) (tree c.args.types.now c.args.at)) c.push.result c.push.ensures.ok c.push.ensures.means means;
       longer = pushed c.args.types.now c.push.new.self c.in_ok-form.form c.push.result c.push.ensures.ok c.push.ensures.err;
+      vars = pushed_vars c.args.types.now c.push.new.self c.in_ok-form.form c.push.result (λ w q. not_var c.args.from c.args.copies.now c.form-2.result.now w (λ u p. c.in_default.not-Var u (same ∙ p)) (sym made ∙ q)) c.push.ensures.ok c.push.ensures.err;
     }
