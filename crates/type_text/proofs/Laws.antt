@@ -1,16 +1,16 @@
 -- What the steps write is what the definition says.
 use Rattle.std.proofs.Common.{◌≡◌, ℕ, ◌+◌, Bool, true, false, List, [], ◌∷◌, ◌++◌, refl, sym, ap, ◌∙◌, append_assoc}
 use Rattle.std.specs.Prelude.{map, fold, flat_map, not, cond, nat_eq, ◌||◌, if◌then◌else◌, codes}
-use Rattle.std.specs.List.{list_any, position_or_len}
+use Rattle.std.specs.List.{position_or_len}
 use Rattle.std.proofs.lemmas.List.{append-nil}
 use Rattle.std.proofs.lemmas.List.Sums.{fold-append}
 use Rattle.std.proofs.lemmas.List.Folds.{list_any-append}
 use Rattle.std.proofs.lemmas.Bool.{eqb-true, eq-eqb}
 use Rattle.sml_types.specs.declared.types.TyVar.{TyVar}
 use Rattle.sml_types.specs.declared.tables.TypeName.{TypeName}
-use Rattle.sml_types.specs.Poly.{Poly, has_num, is_in}
+use Rattle.sml_types.specs.Poly.{has_num, is_in}
 use Rattle.type_text.specs.Text.{Item, Byte, Name, noted, in_order, numbers, letters, variable_text, filled, Entry, scheme_text, open_numbers, shown_type, line, lines}
-use Rattle.type_text.specs.States.{State, state, begun, with_bytes, with_item, with_items, with_variable, with_line}
+use Rattle.type_text.specs.States.{State, state, with_bytes, with_item, with_items, with_line}
 
 -- ---- numbers in order of first occurrence
 

@@ -1,5 +1,5 @@
 -- The tasks of a form show what the form shows, and are done in fewer steps.
-use Rattle.std.proofs.Common.{◌≡◌, ℕ, zero, suc, ◌+◌, ◌<◌, ◌≤◌, Bool, true, false, List, [], ◌∷◌, ◌++◌, length, Option, Some, None, refl, sym, ap, ◌∙◌, arith, append_assoc, length-append}
+use Rattle.std.proofs.Common.{◌≡◌, ℕ, zero, suc, ◌+◌, ◌<◌, ◌≤◌, Bool, true, false, List, [], ◌∷◌, ◌++◌, length, None, refl, sym, ap, ◌∙◌, arith, append_assoc, length-append}
 use Rattle.std.specs.Prelude.{map, fold, flat_map, slice_get, codes, if◌then◌else◌}
 use Rattle.std.proofs.lemmas.List.{append-nil, get_or_past}
 use Rattle.sml_types.specs.declared.types.Ty.{Ty}
@@ -11,8 +11,8 @@ use Rattle.sml_types.specs.Tree.{Tree, NoParts}
 use Rattle.sml_types.specs.Forms.{tree, trees, tree_at, listed, form_tree}
 use Rattle.type_text.specs.declared.level.Level.{Level}
 use Rattle.type_text.specs.declared.level.Level.TheVariants.{Function, Product, Atom}
-use Rattle.type_text.specs.Text.{Item, Byte, plain, label_text, is_tuple, field_texts, record_text, named_text, head_text, enclosed, separated, is_atom, type_text, part_texts}
-use Rattle.type_text.specs.Tasks.{Task, ShowTuple, ShowRecord, ShowBytes, task_text, tasks_text, weight, task_weight, tasks_weight}
+use Rattle.type_text.specs.Text.{Item, Byte, plain, label_text, is_tuple, field_texts, record_text, named_text, enclosed, separated, is_atom, type_text, part_texts}
+use Rattle.type_text.specs.Tasks.{Task, ShowTuple, ShowRecord, ShowBytes, task_text, tasks_text, weight, tasks_weight}
 use Rattle.type_text.specs.Steps.{arrow_tasks, tuple_tasks, field_tasks, record_tasks, named_tasks}
 
 -- ---- lists

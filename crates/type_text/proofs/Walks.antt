@@ -1,8 +1,8 @@
 -- The steps of showing a type.
-use Rattle.std.proofs.Common.{◌≡◌, ℕ, ◌+◌, ◌<◌, Bool, true, false, List, [], ◌∷◌, ◌++◌, Option, Some, None, refl, sym, ap, ◌∙◌, arith, append_assoc, subst}
-use Rattle.std.specs.Prelude.{map, fold, flat_map, sum_by, slice_get}
+use Rattle.std.proofs.Common.{◌≡◌, ℕ, ◌+◌, ◌<◌, List, [], ◌∷◌, ◌++◌, Some, None, refl, sym, ap, ◌∙◌, arith, append_assoc, subst}
+use Rattle.std.specs.Prelude.{map, fold, slice_get}
 use Rattle.std.proofs.lemmas.List.{append-nil}
-use Rattle.std.proofs.lemmas.List.Sums.{fold-append, sum_by-append}
+use Rattle.std.proofs.lemmas.List.Sums.{sum_by-append}
 use Rattle.std.proofs.lemmas.Grind.{flat_map-append}
 use Rattle.sml_tree.specs.declared.bare.Lab.{Lab}
 use Rattle.sml_types.specs.declared.types.Ty.{Ty}
@@ -12,10 +12,9 @@ use Rattle.sml_types.specs.declared.types.TyForm.{TyForm}
 use Rattle.sml_types.specs.declared.types.TyForm.TheVariants.{Var, Fields, Arrow, Named}
 use Rattle.sml_types.specs.declared.tables.TypeName.{TypeName}
 use Rattle.sml_types.specs.Forms.{tree, listed, form_tree, IsNumbered}
-use Rattle.sml_types.specs.Tree.{NoParts}
 use Rattle.sml_types.proofs.FormFacts.{tree_form}
 use Rattle.type_text.specs.declared.level.Level.{Level}
-use Rattle.type_text.specs.Text.{Item, Byte, Name, plain, label_text, spelling, named_text, type_text, part_texts}
+use Rattle.type_text.specs.Text.{Item, Name, plain, label_text, spelling, named_text, type_text, part_texts}
 use Rattle.type_text.specs.Tasks.{Task, ShowType, ShowLabel, ShowBytes, task_text, tasks_text, weight, task_weight, tasks_weight}
 use Rattle.type_text.specs.Steps.{arrow_tasks, record_tasks, named_tasks}
 use Rattle.type_text.specs.States.{State, state, with_bytes, with_item, with_items, with_variable, IsStep}

@@ -1,4 +1,4 @@
-use Rattle.std.proofs.Common.{ Some, sym, ap, ◌∙◌}
+use Rattle.std.proofs.Common.{Some, sym, ap, ◌∙◌}
 use Rattle.std.proofs.lemmas.Result.{on_ok_weaker}
 use Rattle.sml_types.specs.declared.types.TyForm.TheVariants.{Fields, Named}
 use Rattle.type_text.proofs.Walks.{step_none, step_variable, step_arrow, step_record, step_named}
