@@ -1,5 +1,5 @@
 -- Types in their text, held against what the language shows.
-use Rattle.std.proofs.Common.{◌≡◌, ℕ, Bool, true, false, List, [], ◌∷◌, refl}
+use Rattle.std.proofs.Common.{◌≡◌, ℕ, true, false, List, [], ◌∷◌, refl}
 use Rattle.std.specs.Fmt.{digits}
 use Rattle.std.specs.Prelude.{codes, pos}
 use Rattle.sml_tree.specs.declared.bare.Lab.{Lab}
@@ -8,7 +8,7 @@ use Rattle.sml_types.specs.declared.types.TyVar.{TyVar}
 use Rattle.sml_types.specs.declared.tables.Equality.TheVariants.{Parts}
 use Rattle.sml_types.specs.declared.tables.TypeName.{TypeName}
 use Rattle.sml_types.specs.Tree.{Tree, Variable, App, ArrowHead, FieldsHead, NameHead, NoParts, Part}
-use Rattle.sml_types.specs.Poly.{Poly, poly}
+use Rattle.sml_types.specs.Poly.{poly}
 use Rattle.type_text.specs.Text.{Entry, letters, lines}
 
 abbrev var : ℕ → TyVar
@@ -66,7 +66,7 @@ all_of =
 
 -- each is as the language shows it
 is_shown : lines names all_of ≡ codes
-  "val k : 'a -> 'b -> 'a\nval apply : ('a -> 'b) -> 'a -> 'b\nval f1 : (int -> int) * (int * int) -> int -> int\nval mixed : ''a * ''a * 'b -> 'b\nval r : '_a list\nval s : ('_b -> '_b) list\nval u : unit\nval one : {1 : int}\nval rec0 : {2 : int, a : int * int, b : int -> int}\nval sparse : {1 : int, 3 : int}\nval mk : 'a * 'b -> ('a, 'b) two\nval cc : ('_c list * '_a list) list\nval ap3 : 'a -> (int -> int, 'a * 'a) two\n"
+    "val k : 'a -> 'b -> 'a\nval apply : ('a -> 'b) -> 'a -> 'b\nval f1 : (int -> int) * (int * int) -> int -> int\nval mixed : ''a * ''a * 'b -> 'b\nval r : '_a list\nval s : ('_b -> '_b) list\nval u : unit\nval one : {1 : int}\nval rec0 : {2 : int, a : int * int, b : int -> int}\nval sparse : {1 : int, 3 : int}\nval mk : 'a * 'b -> ('a, 'b) two\nval cc : ('_c list * '_a list) list\nval ap3 : 'a -> (int -> int, 'a * 'a) two\n"
 unfolding letters digits
 is_shown = refl
 

@@ -1,1 +1,4 @@
 mod Cases
+pub mod Shows
+pub mod Walks
+pub mod Laws

@@ -1,5 +1,5 @@
 -- The entries of a typed program's names.
-use Rattle.std.specs.Prelude.{ℕ, Option, Some, None, List, [], get_or, slice_get}
+use Rattle.std.specs.Prelude.{Option, Some, None, List, [], get_or, slice_get}
 use Rattle.smlc_base.specs.declared.names.Name.{Name}
 use Rattle.sml_types.specs.declared.scheme.NameScheme.{NameScheme}
 use Rattle.sml_types.specs.declared.types.TyForm.{TyForm}

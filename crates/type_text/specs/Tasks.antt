@@ -1,5 +1,5 @@
 -- What is left to be shown of a line.
-use Rattle.std.specs.Prelude.{ℕ, ◌+◌, List, [], ◌∷◌, ◌++◌, map, flat_map, sum_by, codes}
+use Rattle.std.specs.Prelude.{ℕ, ◌+◌, List, ◌++◌, map, flat_map, sum_by, codes}
 use Rattle.sml_tree.specs.declared.bare.Lab.{Lab}
 use Rattle.sml_types.specs.declared.types.Ty.{Ty}
 use Rattle.sml_types.specs.declared.types.Field.{Field}
@@ -8,7 +8,7 @@ use Rattle.sml_types.specs.declared.tables.TypeName.{TypeName}
 use Rattle.sml_types.specs.Tree.{Tree, Variable, App, NoParts, Part}
 use Rattle.sml_types.specs.Forms.{tree, listed}
 use Rattle.type_text.specs.declared.level.Level.{Level}
-use Rattle.type_text.specs.declared.level.Level.TheVariants.{Function, Product, Atom}
+use Rattle.type_text.specs.declared.level.Level.TheVariants.{Function, Atom}
 use Rattle.type_text.specs.Text.{Item, plain, label_text, type_text}
 
 -- a type at a level; the further parts of a tuple, the further fields of a record and the further arguments of a type name, each behind what separates it from those before; a label; bytes

@@ -1,5 +1,5 @@
 -- The text in which types are shown.
-use Rattle.std.specs.Prelude.{ℕ, ◌+◌, ◌%◌, ◌/◌, Bool, true, false, ◌&&◌, not, cond, if◌then◌else◌, nat_eq, nat_lt, ℤ, pos, Option, Some, None, List, [], ◌∷◌, ◌++◌, length, map, fold, flat_map, slice_get, codes}
+use Rattle.std.specs.Prelude.{ℕ, ◌+◌, ◌%◌, ◌/◌, Bool, true, false, ◌&&◌, not, if◌then◌else◌, nat_eq, nat_lt, pos, Option, Some, None, List, [], ◌∷◌, ◌++◌, length, map, fold, flat_map, slice_get, codes}
 use Rattle.std.specs.Ordering.{int_eq}
 use Rattle.std.specs.List.{list_any, join_by, position_or_len}
 use Rattle.std.specs.Fmt.{decimal, signed_decimal}
@@ -7,7 +7,7 @@ use Rattle.sml_tree.specs.declared.bare.Lab.{Lab}
 use Rattle.sml_tree.specs.declared.bare.Lab.TheVariants.{Num, Text}
 use Rattle.sml_types.specs.declared.types.TyVar.{TyVar}
 use Rattle.sml_types.specs.declared.tables.TypeName.{TypeName}
-use Rattle.sml_types.specs.Tree.{Head, ArrowHead, FieldsHead, NameHead, Tree, Variable, App, NoParts, Part}
+use Rattle.sml_types.specs.Tree.{Head, ArrowHead, FieldsHead, NameHead, Tree, Variable, App, Part}
 use Rattle.sml_types.specs.Poly.{Poly, has_num}
 use Rattle.type_text.specs.declared.level.Level.{Level}
 use Rattle.type_text.specs.declared.level.Level.TheVariants.{Function, Product, Atom}
@@ -65,8 +65,8 @@ abbrev pub record_text : List Lab → List (Level → List Item) → Level → L
 record_text [] parts level = plain (codes "unit")
 record_text labs parts level =
     if is_tuple labs
-        then enclosed (is_atom level) (separated (codes " * ") (map (λ part. part Atom) parts))
-        else plain (codes "{") ++ separated (codes ", ") (field_texts labs parts) ++ plain (codes "}")
+    then enclosed (is_atom level) (separated (codes " * ") (map (λ part. part Atom) parts))
+    else plain (codes "{") ++ separated (codes ", ") (field_texts labs parts) ++ plain (codes "}")
 
 abbrev pub named_text : List ℕ → List (Level → List Item) → List Item
 named_text name [] = plain name
@@ -113,8 +113,8 @@ letters i = (97 + i % 26) ∷ (if nat_lt i 26 then [] else decimal (i / 26))
 abbrev pub variable_text : (ℕ → Bool) → List ℕ → List ℕ → TyVar → List ℕ
 variable_text is_own own open_ones v =
     if is_own v.num
-        then (if v.eq then codes "''" else codes "'") ++ letters (position_or_len (nat_eq v.num) own)
-        else codes "'_" ++ letters (position_or_len (nat_eq v.num) open_ones)
+    then (if v.eq then codes "''" else codes "'") ++ letters (position_or_len (nat_eq v.num) own)
+    else codes "'_" ++ letters (position_or_len (nat_eq v.num) open_ones)
 
 abbrev pub filled : (TyVar → List ℕ) → List Item → List ℕ
 filled name [] = []

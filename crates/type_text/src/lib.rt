@@ -12,3 +12,6 @@ mod written;
 
 pub use level::Level;
 pub use text::lines;
+
+#[cfg(test)]
+mod tests;

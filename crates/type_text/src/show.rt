@@ -1,6 +1,6 @@
 //! A type in its text, piece by piece.
 
-ghost use Rattle.std.specs.Prelude.{◌≡◌, OnOk, length, slice_get};
+ghost use Rattle.std.specs.Prelude.{◌≡◌, None, Some, OnOk, IfNone, IfSome, slice_get};
 ghost use Rattle.sml_types.specs.Forms.{tree, AreForms};
 ghost use Rattle.type_text.specs.declared.level.Level.TheVariants.{Function};
 ghost use Rattle.type_text.specs.Text.{type_text, spelling};
@@ -25,6 +25,13 @@ fn name_bytes<'a>(type_names: &'a [TypeName], number: u32) -> &'a [u8]
     }
 }
 
+fn form_at(forms: &[TyForm], ty: Ty) -> Option<&TyForm>
+    ensures none { IfNone result (slice_get forms.now ty.0 ≡ None) }
+    ensures some { IfSome result (λ form. slice_get forms.now ty.0 ≡ Some form.now) }
+{
+    forms.get(ty.0 as usize)
+}
+
 /// Shows a type as far as its form says, and leaves its parts as pieces.
 fn show_form<'a>(
     forms: &'a [TyForm],
@@ -37,7 +44,7 @@ fn show_form<'a>(
     requires { AreForms forms.now }
     ensures { OnOk result (IsStep forms.now type_names.now (ShowType ty.0 level) written.old work.old written.new work.new) }
 {
-    match forms.get(ty.0 as usize) {
+    match form_at(forms, ty) {
         None => Ok(()),
         Some(form) => match form {
             TyForm::Var(var) => written.variable(*var),

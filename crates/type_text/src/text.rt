@@ -27,7 +27,13 @@ fn write_line(
     written.bytes(typed.bare.names.items()[at].items())?;
     written.bytes(b" : ")?;
     let forms = typed.types.forms();
-    show(alloc, forms, typed.tables.names.items(), scheme.body, written)?;
+    show(
+        alloc,
+        forms,
+        typed.tables.names.items(),
+        scheme.body,
+        written,
+    )?;
     written.bytes(b"\n")
 }
 
