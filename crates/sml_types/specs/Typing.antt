@@ -20,7 +20,7 @@ use Rattle.sml_types.specs.declared.types.TyVar.{TyVar}
 use Rattle.sml_types.specs.declared.types.TyForm.{TyForm}
 use Rattle.sml_types.specs.declared.tables.ConRow.{ConRow}
 use Rattle.sml_types.specs.declared.tables.TypeName.{TypeName}
-use Rattle.sml_types.specs.Tree.{Tree, Variable}
+use Rattle.sml_types.specs.Tree.{Tree, Variable, App, NoParts, Part}
 use Rattle.sml_types.specs.Forms.{tree}
 use Rattle.sml_types.specs.Poly.{Poly, poly, mono, is_in, is_free, IsInstance, Context, with_type_names, with_tyvars, with_names, with_own, scheme_in, IsFresh}
 use Rattle.sml_types.specs.Escape.{mentions, AreKnown}
@@ -89,6 +89,17 @@ group_names (b ∷ bindings) = b.name.0 ∷ group_names bindings
 abbrev pub made_by : Option Node → List ℕ
 made_by (Some (node.Datatype bindings)) = type_numbers bindings
 made_by _ = []
+
+abbrev pub IsAmong : TyVar → List TyVar → Type 0
+IsAmong v [] = ⊥
+IsAmong v (w ∷ ws) = (v ≡ w) ⊎ IsAmong v ws
+
+-- no variables but these stand in a type
+abbrev pub Covers : List TyVar → Tree → Type 0
+Covers vs (Variable v) = IsAmong v vs
+Covers vs (App h ts) = Covers vs ts
+Covers vs NoParts = Unit {0}
+Covers vs (Part t ts) = Covers vs t × Covers vs ts
 
 module _ (p : Bare) (t : Typing) where
   -- ---- Constructors
@@ -164,8 +175,9 @@ module _ (p : Bare) (t : Typing) where
 
   -- ---- Type declarations
 
+  -- on the right stand the type variables on the left alone
   abbrev pub IsTypeBinding : TypeBinding → Type 0
-  IsTypeBinding b = (ty : Tree) × Written b.ty ty × (t.abbreviations b.number ≡ poly (all_explicit p.tyvars b.params) ty)
+  IsTypeBinding b = (ty : Tree) × Written b.ty ty × Covers (all_explicit p.tyvars b.params) ty × (t.abbreviations b.number ≡ poly (all_explicit p.tyvars b.params) ty)
 
   abbrev pub IsArgument : Option ℕ → Option Ty → Type 0
   IsArgument None None = Unit {0}
@@ -177,6 +189,11 @@ module _ (p : Bare) (t : Typing) where
   AreConstructors (b ∷ bindings) (c ∷ cons) = (c.text ≡ b.text) × IsArgument b.arg c.arg × AreConstructors bindings cons
   AreConstructors _ _ = ⊥
 
+  -- in a constructor's argument stand these type variables alone
+  abbrev pub CoversArgument : List TyVar → Option Ty → Type 0
+  CoversArgument vs None = Unit {0}
+  CoversArgument vs (Some a) = Covers vs (tree t.forms a.0)
+
   -- the tables have the datatype's row
   pub record IsDatBinding (b : DatBinding) : Type 0 where
     pub row : TypeName
@@ -184,6 +201,7 @@ module _ (p : Bare) (t : Typing) where
     pub text : row.text ≡ b.text
     pub params : row.params ≡ all_explicit p.tyvars b.params
     pub cons : AreConstructors b.cons row.cons
+    pub covers : AllByRecursion (λ c. CoversArgument row.params c.arg) row.cons
 
   -- an exception constructor's argument, as it is written
   abbrev pub IsExnArgument : Option ℕ → Tree → Type 0
