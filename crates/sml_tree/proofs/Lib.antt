@@ -8,3 +8,4 @@ pub mod SameParts
 pub mod Programs
 mod Worked
 pub mod Ascends
+pub mod EachNode
