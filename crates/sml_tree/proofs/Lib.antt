@@ -9,3 +9,4 @@ pub mod Programs
 mod Worked
 pub mod Ascends
 pub mod EachNode
+pub mod AscendingSets
