@@ -6,7 +6,8 @@ use Rattle.std.proofs.lemmas.Bool.{eqb-true, eq-eqb, ltb-true, ltb-false, eqb-fa
 use Rattle.sml_tree.specs.Sets.{has, merge, union, union_over}
 use Rattle.sml_tree.proofs.Members.{IsWithin, has-union, within_left, within_right, either, or_left, or_right}
 use Rattle.simulation.specs.Blocks.{Block, IsAmong, StandsAt, Reach, root, field}
-use Rattle.sml_def.specs.Words.{some_fields, as_set, fields_at, rounds, reached, IsLeastReach}
+use Rattle.simulation.specs.Words.{IsDistinct, HasWords}
+use Rattle.sml_def.specs.Words.{words, some_fields, as_set, fields_at, rounds, reached, IsLeastReach}
 
 -- ---- Ascending sets below n
 
@@ -117,6 +118,34 @@ one_in f (x ∷ xs) b z hb hz =
     (λ a. or_left (has (f x) z) (has (union_over f xs) z) (ap (λ y. has (f y) z) (sym (eqb-true b x a)) ∙ hz))
     (λ a. or_right (has (f x) z) (has (union_over f xs) z) (one_in f xs b z a hz))
 
+in_among : (xs : List ℕ) (z : ℕ) → has xs z ≡ true → IsAmong z xs
+in_among [] z h = cc
+in_among (x ∷ xs) z h =
+    either (nat_eq z x) (has xs z) (IsAmong z (x ∷ xs)) h (λ e. inl (eqb-true z x e)) (λ g. inr (in_among xs z g))
+
+among_in : (xs : List ℕ) (z : ℕ) → IsAmong z xs → has xs z ≡ true
+among_in [] z h = absurd h
+among_in (x ∷ xs) z h =
+    ⊎_elim (λ (e : z ≡ x). or_left (nat_eq z x) (has xs z) (eq-eqb z x e)) (λ (g : IsAmong z xs). or_right (nat_eq z x) (has xs z) (among_in xs z g)) h
+
+-- a member of an ascending list
+among_between : (lo n : ℕ) (xs : List ℕ) (z : ℕ) → IsAscending lo n xs → IsAmong z xs → (lo ≤ z) × (z < n)
+among_between lo n [] z h g = absurd g
+among_between lo n (x ∷ xs) z h (inl e) = (omega (arith, h.0), omega (arith, h.1))
+among_between lo n (x ∷ xs) z h (inr g) =
+    let r = among_between (suc x) n xs z h.2 g in
+    (omega (arith, h.0, r.0), r.1)
+
+distinct_of : (lo n : ℕ) (xs : List ℕ) → IsAscending lo n xs → IsDistinct xs
+distinct_of lo n [] h = tt
+distinct_of lo n (x ∷ xs) h =
+    ((λ g. let r = among_between (suc x) n xs x h.2 g in absurd (omega (arith, r.0))), distinct_of (suc x) n xs h.2)
+
+get_below : {A : Type 0} (xs : List A) (a : ℕ) → a < length xs → (x : A) × (slice_get xs a ≡ Some x)
+get_below [] a h = absurd (omega arith)
+get_below (x ∷ xs) zero h = (x, refl)
+get_below (x ∷ xs) (suc a) h = get_below xs a (omega arith)
+
 -- ---- The search
 
 -- all that is named stands in the memory
@@ -189,6 +218,19 @@ module _ (memory : List Block) (roots : List ℕ) (whole : IsWhole memory roots)
   all_reached a (field b c x r s h) =
       ap (λ xs. has xs a) (sym stable)
       ∙ within_right (reached memory roots) (union_over (fields_at memory) (reached memory roots)) a (one_in (fields_at memory) (reached memory roots) b a (all_reached b r) (ap (λ o. has (as_set (some_fields o)) a) s ∙ among_has x.fields a h))
+
+  reached_ascending : IsAscending 0 (length memory) (reached memory roots)
+  reached_ascending = rounds_ascending (length memory) (as_set roots) (set_ascending (length memory) roots whole.roots_stand)
+
+  pub has_words : HasWords memory roots (words memory roots)
+  has_words = record {
+    addresses = reached memory roots;
+    distinct = distinct_of 0 (length memory) (reached memory roots) reached_ascending;
+    reached = λ a h.
+        (found_rounds (length memory) (as_set roots) (λ z h. root z (has_among roots z h)) a (among_in (reached memory roots) a h), get_below memory a (among_between 0 (length memory) (reached memory roots) a reached_ascending h).1);
+    all = λ a x r s. in_among (reached memory roots) a (all_reached a r);
+    sum = refl;
+  }
 
   pub least : IsLeastReach memory roots
   least = record { found = found_rounds (length memory) (as_set roots) (λ z h. root z (has_among roots z h)); all = all_reached }

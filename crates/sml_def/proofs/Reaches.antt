@@ -10,10 +10,10 @@ use Rattle.simulation.proofs.Heaps.{stands_map}
 use Rattle.sml_def.specs.State.{Value, At, Env, Address, Awaits, FunctionPart, ArgumentPart, FieldPart, Subject, RightSide, RaisePart, Guarded, Block, Tuple, Applied, Text, Cell, ExnName, Packet, Closure, Frame, Pending, Control, Eval, Ret, Apply, Raise, Eq, End}
 use Rattle.sml_def.specs.Run.{State, of_value, of_next, of_values, of_env, of_frame, of_block, of_control, view, source, start}
 use Rattle.sml_def.specs.Closed.{InStore, NextIn, AllIn, EnvIn, AwaitsIn, BlockIn, ControlIn, IsClosed}
-use Rattle.sml_def.specs.Words.{ReachIsLeast}
+use Rattle.sml_def.specs.Words.{ReachIsLeast, WordsAreReached}
 use Rattle.sml_def.proofs.Effects.{all_append, all_get}
 use Rattle.sml_def.proofs.Closed.{names_nothing_lost}
-use Rattle.sml_def.proofs.Least.{IsWhole, least}
+use Rattle.sml_def.proofs.Least.{IsWhole, least, has_words}
 
 module _ (n : ℕ) where
   abbrev Below : List ℕ → Type 0
@@ -87,3 +87,8 @@ pub reach_is_least : ReachIsLeast
 reach_is_least p input n =
     let s = state_at (machine_of (source p)) (start input) n in
     least (map view s.store) (of_control s.control.control) (whole s (names_nothing_lost p input n))
+
+pub words_are_reached : WordsAreReached
+words_are_reached p input n =
+    let s = state_at (machine_of (source p)) (start input) n in
+    has_words (map view s.store) (of_control s.control.control) (whole s (names_nothing_lost p input n))

@@ -6,7 +6,7 @@ use Rattle.sml_tree.specs.Sets.{has, union, union_over}
 use Rattle.simulation.specs.Blocks.{Block, points_of, Reach}
 use Rattle.simulation.specs.Runs.{is_label}
 use Rattle.simulation.specs.Stores.{is_datum}
-use Rattle.simulation.specs.Words.{words_at}
+use Rattle.simulation.specs.Words.{weight, words_at, HasWords}
 use Rattle.sml_def.specs.Run.{run}
 
 abbrev pub some_fields : Option Block → List ℕ
@@ -32,7 +32,7 @@ reached memory roots = rounds (length memory) memory (as_set roots)
 
 -- the source words of what is reached
 abbrev pub words : List Block → List ℕ → ℕ
-words memory roots = sum_by (words_at memory) (reached memory roots)
+words memory roots = weight (words_at memory) (reached memory roots)
 
 -- ---- Census
 
@@ -55,7 +55,7 @@ census memory roots = record {
   data_words = sum_by (λ a. words_if_datum (slice_get memory a)) (reached memory roots);
 }
 
--- ---- The law
+-- ---- The laws
 
 -- what is computed is the least set that has the roots and is closed under fields
 pub record IsLeastReach (memory : List Block) (roots : List ℕ) : Type 0 where
@@ -65,3 +65,8 @@ pub record IsLeastReach (memory : List Block) (roots : List ℕ) : Type 0 where
 -- so it is in each state of a run
 abbrev pub ReachIsLeast : Type 0
 ReachIsLeast = (p : Bare) (input : List ℕ) (n : ℕ) → IsLeastReach ((run p input).memory n) ((run p input).roots n)
+
+-- and in each state of a run what is reached has these words
+abbrev pub WordsAreReached : Type 0
+WordsAreReached =
+    (p : Bare) (input : List ℕ) (n : ℕ) → HasWords ((run p input).memory n) ((run p input).roots n) (words ((run p input).memory n) ((run p input).roots n))

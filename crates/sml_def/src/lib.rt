@@ -6,7 +6,7 @@
 ghost use Rattle.sml_def.specs.Closed.{NamesNothingLost};
 ghost use Rattle.sml_def.specs.Cut.{EnvironmentsAreCut};
 ghost use Rattle.sml_def.specs.Laws.{RunsOnlyGrow, PointsAscend};
-ghost use Rattle.sml_def.specs.Words.{ReachIsLeast};
+ghost use Rattle.sml_def.specs.Words.{ReachIsLeast, WordsAreReached};
 
 pub mod sites;
 
@@ -27,9 +27,10 @@ pub fn environments_are_cut()
     ensures { EnvironmentsAreCut }
 {}
 
-/// In each state of a run what is computed as reached is the least set that has the roots and is closed under fields.
+/// In each state of a run what is computed as reached is the least set that has the roots and is closed under fields, and it has the words that are computed.
 pub fn reach_is_least()
-    ensures { ReachIsLeast }
+    ensures least { ReachIsLeast }
+    ensures words { WordsAreReached }
 {}
 
 /// The points of a program stand in ascending order: by node, then by kind.

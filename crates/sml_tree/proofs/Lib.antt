@@ -8,3 +8,5 @@ pub mod SameParts
 pub mod Programs
 mod Worked
 pub mod Ascends
+pub mod EachNode
+pub mod AscendingSets

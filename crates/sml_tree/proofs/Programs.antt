@@ -1,6 +1,6 @@
 -- Small programs, as bare trees. They are what an independent expansion made of the text above each.
-use Rattle.std.proofs.Common.{ℕ, List, [], ◌∷◌, Some, None, true, false}
-use Rattle.std.specs.Prelude.{codes, ℤ, pos, negsuc, map}
+use Rattle.std.proofs.Common.{ℕ, List, [], ◌∷◌, None, true, false}
+use Rattle.std.specs.Prelude.{codes, pos, negsuc, map}
 use Rattle.smlc_base.specs.declared.place.Place.{Place}
 use Rattle.smlc_base.specs.declared.primitive.Primitive.TheVariants as prim
 use Rattle.smlc_base.specs.declared.names.Name.{Name}

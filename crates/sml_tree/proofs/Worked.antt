@@ -1,9 +1,12 @@
 -- Points and widths of small programs, as an independent model computes them.
-use Rattle.std.proofs.Common.{◌≡◌, [], ◌∷◌, Some, None, refl}
+use Rattle.std.proofs.Common.{◌≡◌, [], ◌∷◌, Some, None, refl, arith}
 use Rattle.std.specs.Prelude.{map}
 use Rattle.smlc_base.specs.declared.point.PointKind.TheVariants as kind
 use Rattle.sml_tree.specs.Points.{point, spot, spots}
 use Rattle.sml_tree.specs.Width.{width}
+use Rattle.sml_tree.specs.declared.bare.Bare.{Bare}
+use Rattle.sml_tree.specs.IsBare.{IsBare}
+use Rattle.sml_tree.proofs.EachNode.{numbered_by_list, preorder_by_list}
 use Rattle.sml_tree.proofs.Programs.{user, hello, handled, caught, local_exception, written_order, bind_first, lists, packets, lines, ints, texts, refs}
 
 hello_spots : spots hello.nodes ≡ (spot 3 kind.Ret 0 None) ∷ (spot 4 kind.Ret 0 (Some (point 3 kind.Ret))) ∷ (spot 5 kind.Ret 1 (Some (point 3 kind.Ret))) ∷ []
@@ -77,3 +80,28 @@ refs_spots = refl
 
 refs_width : width refs.nodes (map (λ n. user) refs.nodes) ≡ 108
 refs_width = refl
+
+-- ---- One of them with what a bare tree has beside its nodes
+
+abbrev hello_tree : Bare
+hello_tree = record hello { decs = 0 ∷ []; shown = 1 ∷ []; width = 8 }
+
+hello_is_bare : IsBare hello_tree
+hello_is_bare = record {
+  few = omega arith;
+  numbered = numbered_by_list hello_tree.nodes (((omega arith, omega arith), ((omega arith, omega arith), tt)), (((omega arith, omega arith), ((omega arith, omega arith), tt)), (tt, (((omega arith, omega arith), ((omega arith, omega arith), tt)), (tt, (tt, (tt, tt)))))));
+  preorder = preorder_by_list hello_tree.nodes ((refl, (refl, tt)), ((refl, (refl, tt)), (tt, ((refl, (refl, tt)), (tt, (tt, (tt, tt))))))) refl;
+  places = refl;
+  sorts = ((refl, refl), (((refl, refl), tt), (tt, ((refl, refl), (tt, (tt, (tt, tt)))))));
+  stands = (tt, (tt, (tt, (tt, (tt, (omega arith, (tt, tt)))))));
+  types = λ i t e. cc;
+  bound = refl;
+  once = tt;
+  nest = refl;
+  end = refl;
+  decs = ((omega arith, tt), (refl, tt));
+  first_dec = refl;
+  shown = ((omega arith, tt), (refl, tt));
+  width = refl;
+  narrow = omega arith;
+}

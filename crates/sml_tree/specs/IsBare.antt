@@ -1,7 +1,7 @@
 -- What a bare tree keeps.
 use Rattle.std.specs.Prelude.{◌≡◌, ℕ, suc, ◌+◌, ◌^◌, ◌<◌, ◌≤◌, ℤ, pos, negsuc, Bool, true, false, cond, nat_eq, List, [], ◌∷◌, ◌++◌, Option, Some, None, length, map, flat_map, filter, count_by, slice_get, unwrap_or, nat_lt, int_lt, ◌||◌, ◌&&◌}
 use Rattle.std.specs.List.{AllByRecursion}
-use Rattle.std.specs.Option.{is_some}
+use Rattle.std.specs.Option.{is_some, option_map}
 use Rattle.sml_tree.specs.declared.bare.Bare.{Bare}
 use Rattle.sml_tree.specs.declared.bare.Node.{Node}
 use Rattle.sml_tree.specs.declared.bare.Node.TheVariants as node
@@ -77,7 +77,7 @@ sort_of (node.NoException x) = Declaration
 sort_of _ = Expression
 
 abbrev pub IsOf : List Node → Sort → ℕ → Type 0
-IsOf nodes s i = (n : Node) → slice_get nodes i ≡ Some n → sort_of n ≡ s
+IsOf nodes s i = option_map sort_of (slice_get nodes i) ≡ Some s
 
 abbrev pub HasRules : List Node → List Rule → Type 0
 HasRules nodes rules = AllByRecursion (λ r. IsOf nodes Pattern r.pat × IsOf nodes Expression r.body) rules

@@ -7,6 +7,7 @@ ghost use Rattle.smlc_base.specs.declared.names.Name.{Name};
 ghost use Rattle.sml_tree.specs.Sets.{row_at, union, union_over};
 ghost use Rattle.sml_tree.specs.BareParts.{IsNumbered};
 ghost use Rattle.sml_tree.specs.Free.{exception_of, names_of, binds_of, free_of, free_match, free_fields, bound_by, scoped, free};
+ghost use Rattle.sml_tree.specs.IsBare.{IsAscending};
 ghost use Rattle.sml_tree.specs.Variables.{AreVariables};
 
 use crate::bare::{Bare, Binding, Con, Field, Node, RecBinding, Rule};
@@ -279,7 +280,8 @@ impl Bare {
     pub fn free(&self, node: u32) -> Result<Row<Name>, NoMemory>
         requires numbered { IsNumbered self.now.nodes }
         requires here { node < length self.now.nodes }
-        ensures { IfOk result (λ r. map (λ x. x.0) r ≡ free self.now.nodes node) }
+        ensures names { IfOk result (λ r. map (λ x. x.0) r ≡ free self.now.nodes node) }
+        ensures ascending { IfOk result (λ r. IsAscending 0 (map (λ x. x.0) r)) }
     {
         let alloc = self.nodes.allocator();
         let tables = Variables::of(alloc, self.nodes.items(), node as usize)?;
