@@ -3,3 +3,4 @@ mod LibraryThere
 mod CopySteps
 mod InstanceSteps
 mod InstanceLaw
+mod EqualityFacts

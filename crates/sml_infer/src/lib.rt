@@ -11,3 +11,6 @@ pub mod plain;
 
 pub use library::{LibraryTypes, make_library};
 pub use plain::non_expansive;
+
+#[cfg(test)]
+mod tests;
