@@ -32,12 +32,13 @@ for example in examples/*.sml; do
             without_complaint "$tool" -d "$file"
         fi
     done
-    if command -v qemu-riscv64 > /dev/null; then
+    emulator=$(command -v qemu-riscv64 || command -v qemu-riscv64-static || true)
+    if [ -n "$emulator" ]; then
         chmod +x "$file"
-        qemu-riscv64 "$file" > "$folder/printed"
+        "$emulator" "$file" > "$folder/printed"
         cmp "$folder/expected" "$folder/printed"
     else
-        echo "skipped: no qemu-riscv64 (package qemu-user)"
+        echo "skipped: no qemu-riscv64 (package qemu-user-static)"
     fi
     echo "$example: the same"
 done

@@ -73,10 +73,11 @@ pub struct RecBinding {
     pub right: u32,
 }
 
-/// A field of a record type, in written order.
+/// A field of a record type, in written order: its label, its place in the order of the record's labels, and its type.
 #[derive(Debug, Drop)]
 pub struct TypeField {
     pub lab: Lab,
+    pub slot: u32,
     pub ty: u32,
 }
 

@@ -4,8 +4,12 @@
 #![tactic(auto)]
 
 pub mod bare;
+pub mod free;
+pub mod points;
+mod sets;
 pub mod status;
 pub mod tree_node;
+pub mod width;
 
 pub use bare::{Bare, Node};
 pub use status::Status;

@@ -1,7 +1,7 @@
 -- Types as trees, with their substitutions and which of them admit equality.
 use Rattle.std.specs.Prelude.{ℕ, Bool, true, false, ◌||◌, ◌&&◌, nat_eq, Option, Some, None, List, ◌+◌, slice_get}
 use Rattle.sml_types.specs.declared.types.TyVar.{TyVar}
-use Rattle.sml_types.specs.declared.types.Lab.{Lab}
+use Rattle.sml_tree.specs.declared.bare.Lab.{Lab}
 use Rattle.sml_types.specs.declared.tables.Equality.{Equality}
 use Rattle.sml_types.specs.declared.tables.Equality.TheVariants.{Never, Always, Parts}
 use Rattle.sml_types.specs.declared.tables.TypeName.{TypeName}

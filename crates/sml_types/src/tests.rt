@@ -1,6 +1,7 @@
 //! Each call that takes memory, with ample memory.
 
-use crate::types::{Field, Lab, Ty, TyVar, Types};
+use crate::types::{Field, Ty, TyVar, Types};
+use sml_tree::bare::Lab;
 use smlc_base::Row;
 use std::test::Fail;
 

@@ -6,7 +6,8 @@ ghost use Rattle.sml_types.specs.declared.types.TyForm.TheVariants.{Var, Fields,
 ghost use Rattle.sml_types.specs.declared.types.TyVar.{TyVar};
 ghost use Rattle.sml_types.specs.Forms.{parts_of, form_tree, tree, AreForms, IsNamedAs};
 
-use smlc_base::{Bytes, NoMemory, Row};
+use sml_tree::bare::Lab;
+use smlc_base::{NoMemory, Row};
 use std::alloc::Global;
 use std::marker::Model;
 
@@ -19,13 +20,6 @@ pub struct Ty(pub u32);
 pub struct TyVar {
     pub num: u32,
     pub eq: bool,
-}
-
-/// A label of a record.
-#[derive(Debug, Drop)]
-pub enum Lab {
-    Num(i64),
-    Text(Bytes),
 }
 
 /// A field of a record type.
@@ -60,13 +54,6 @@ impl Model for Types {
     ghost view = { λ t. t.forms };
 
     ghost invariant = { λ t. AreForms t.forms };
-}
-
-/// A type for all types of some variables.
-#[derive(Debug, Drop)]
-pub struct Scheme {
-    pub vars: Row<TyVar>,
-    pub body: Ty,
 }
 
 impl Types {

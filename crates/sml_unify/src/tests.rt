@@ -4,7 +4,8 @@ ghost use Rattle.std.specs.Prelude.{ℕ, ◌<◌, ◌≤◌, length, IfOk};
 
 use crate::error::UnifyError;
 use crate::subst::{Subst, unify};
-use sml_types::{Equality, Field, Lab, Tables, Ty, TyVar, TypeName, Types};
+use sml_tree::bare::Lab;
+use sml_types::{Equality, Field, Tables, Ty, TyVar, TypeName, Types};
 use smlc_base::{NoMemory, Row};
 use std::alloc::Global;
 use std::test::Fail;

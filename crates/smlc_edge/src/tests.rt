@@ -58,7 +58,7 @@ fn a_quiet_sink_keeps_the_first_bytes(rt: HostRuntime) -> Result<(), Fail> {
     Ok(())
 }
 
-const NAME: &str = "/tmp/smlc_edge_adapters";
+const NAME: &str = "smlc_edge_adapters";
 
 #[test]
 fn adapters_meet_a_real_file(rt: HostRuntime) -> Result<(), Fail> {

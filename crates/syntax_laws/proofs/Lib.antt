@@ -7,3 +7,17 @@ pub mod HeadsAccepted
 pub mod ExpressionSteps
 pub mod DecSteps
 pub mod ProgramsAccepted
+pub mod Means
+pub mod IdentifiersSound
+pub mod TypesSound
+pub mod PatternsSound
+pub mod HeadsSound
+pub mod ExpressionsSound
+pub mod DecsSound
+pub mod ProgramsSound
+pub mod Lawful
+pub mod Kept
+pub mod Taken
+pub mod Completed
+pub mod Grouped
+pub mod Derived

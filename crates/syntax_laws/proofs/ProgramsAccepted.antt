@@ -176,10 +176,10 @@ module _ (v : Bool) where
   extends {f = f} (more_vids {u = u} {x = x} h) = let y = extends h in (record { name = x; status = u } ∷ y.0, y.1 ∙ append_assoc f (record { name = x; status = u } ∷ []) y.0)
   extends _ = tt
 
-  taken : {f g : Fix} {a b : List Terminal} {o p : List Made} → Phrase v (IsDecs g) f a b o p → take (length f) g ≡ f
+  pub taken : {f g : Fix} {a b : List Terminal} {o p : List Made} → Phrase v (IsDecs g) f a b o p → take (length f) g ≡ f
   taken {f = f} d = let w = extends d in ap (take (length f)) w.1 ∙ take-append_seam f w.0
 
-  taken_on : {f e g : Fix} {a b c d : List Terminal} {o p q u : List Made} → Phrase v (IsDecs e) f a b o p → Phrase v (IsDecs g) e c d q u → take (length f) g ≡ f
+  pub taken_on : {f e g : Fix} {a b c d : List Terminal} {o p q u : List Made} → Phrase v (IsDecs e) f a b o p → Phrase v (IsDecs g) e c d q u → take (length f) g ≡ f
   taken_on {f = f} x y = let w = extends x in let z = extends y in ap (take (length f)) (z.1 ∙ ap (λ g. g ++ z.0) w.1 ∙ append_assoc f w.0 z.0) ∙ take-append_seam f (w.0 ++ z.0)
 
   let_end : {k : List Symbol} {f g : Fix} {c : List Terminal} {q : List Made} → take (length f) g ≡ f → Accepts v k f c q → Accepts v (sy.LetEnd (length f) ∷ k) g (tok.End ∷ c) q
