@@ -6,6 +6,7 @@ use Rattle.sml_tree.specs.declared.tree_node.TreeNode.{TreeNode}
 use Rattle.sml_tree.specs.declared.tree_node.TreeNode.TheVariants as node
 use Rattle.sml_tree.specs.Parts.{parts_of}
 use Rattle.sml_derive.specs.Terms.{Term, leaf, one, two, three, four, joined, reads}
+use Rattle.sml_derive.proofs.StartLemmas.{back, says_starts}
 use Rattle.sml_derive.specs.Starts.{before, starts_behind, starts_of, IsTree, is_leaf, is_one, is_two, is_three, is_four}
 
 -- no node has more than four parts
