@@ -1,3 +1,4 @@
 pub mod PieceLemmas
 mod ReverseLemmas
 mod StartLemmas
+pub mod TreeLemmas

@@ -4,29 +4,16 @@ use Rattle.std.specs.List.{list_any}
 use Rattle.smlc_base.specs.declared.place.Place.{Place}
 use Rattle.smlc_base.specs.declared.refusal.Refusal.{Refusal}
 use Rattle.smlc_base.specs.declared.refusal.Refusal.TheVariants as refusal
+use Rattle.sml_tree.specs.IsBare.{lab_less}
 use Rattle.sml_tree.specs.declared.bare.Lab.{Lab}
 use Rattle.sml_tree.specs.declared.bare.Lab.TheVariants.{Num, Text}
 
--- the first bytes stand before the second in a dictionary
-abbrev pub bytes_before : List ℕ → List ℕ → Bool
-bytes_before [] [] = false
-bytes_before [] (y ∷ t) = true
-bytes_before (x ∷ s) [] = false
-bytes_before (x ∷ s) (y ∷ t) = nat_lt x y || (nat_eq x y && bytes_before s t)
-
--- the order of labels: numbers by value, then texts by their bytes
-abbrev pub lab_before : Lab → Lab → Bool
-lab_before (Num x) (Num y) = int_lt x y
-lab_before (Num x) (Text y) = true
-lab_before (Text x) (Num y) = false
-lab_before (Text x) (Text y) = bytes_before x y
-
 abbrev pub lab_eq : Lab → Lab → Bool
-lab_eq x y = not (lab_before x y || lab_before y x)
+lab_eq x y = not (lab_less x y || lab_less y x)
 
 -- the place of a label among the labels of a record
 abbrev pub slot : List Lab → Lab → ℕ
-slot labs lab = count_by (λ other. lab_before other lab) labs
+slot labs lab = count_by (λ other. lab_less other lab) labs
 
 -- the labels 1, 2 and so on, from i + 1, one for each item
 abbrev pub numbers : {A : Type 0} → ℕ → List A → List Lab

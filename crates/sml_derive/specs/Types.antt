@@ -11,7 +11,7 @@ use Rattle.sml_prelude.specs.Entries.{first_of}
 use Rattle.sml_derive.specs.declared.meaning.TypeMeaning.{TypeMeaning}
 use Rattle.sml_derive.specs.declared.meaning.TypeMeaning.TheVariants.{TypeName, Abbreviation, EmptyRecord}
 use Rattle.sml_derive.specs.Terms.{Term, leaf, one, two, three}
-use Rattle.sml_derive.specs.Labels.{lab_eq, numbers, doubles}
+use Rattle.sml_derive.specs.Labels.{slot, lab_eq, numbers, doubles}
 use Rattle.sml_derive.specs.Scopes.{Scope, Ident, ident, text_of, type_meaning_of}
 use Rattle.sml_derive.specs.Makings.{Makes, gives, breaks, new_type, ◌>>=◌, ◌>>◌}
 
@@ -35,9 +35,13 @@ labels names _ = []
 abbrev pub labels_once : List (Lab × Place) → Makes (Unit {0})
 labels_once labs = breaks (doubles lab_eq [] labs)
 
+-- the fields of a record type with these labels, in written order
+abbrev pub fields_of : List Lab → List Lab → List ℕ → List TypeField
+fields_of all (l ∷ labs) (t ∷ types) = record { lab = l; slot = slot all l; ty = t } ∷ fields_of all labs types
+fields_of all _ _ = []
+
 abbrev pub type_fields : List Lab → List ℕ → List TypeField
-type_fields (l ∷ labs) (t ∷ types) = record { lab = l; ty = t } ∷ type_fields labs types
-type_fields _ _ = []
+type_fields labs types = fields_of labs labs types
 
 -- a type constructor at its arguments
 abbrev pub constructed : Option TypeMeaning → Ident → List ℕ → Makes ℕ
