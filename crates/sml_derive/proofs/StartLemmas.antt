@@ -102,7 +102,8 @@ known_one : (known : List ℕ) (n : TreeNode) (nodes : List TreeNode) → IsBoun
 known_one known n nodes h k = record {
   more = before known (parts_of n) (length known) ∷ k.more;
   are = k.are ∙ append_assoc known (before known (parts_of n) (length known) ∷ []) k.more;
-  says = says_all known k.more n nodes h k.says }
+  says = says_all known k.more n nodes h k.says;
+}
 
 known_none : (known : List ℕ) → IsKnown known []
 known_none known = record { more = []; are = sym (append-nil known); says = λ i n e. no_node i n e }

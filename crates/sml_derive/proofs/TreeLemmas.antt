@@ -102,9 +102,9 @@ module _ (nodes : List TreeNode) (places : List Place) (starts : List ℕ) where
       let behind : suc (c - parts_of n) ≡ suc (length (drop (parts_of n) roots)) = omega (arith, left, e) in
       let others : length ns ≡ length ps = omega (arith, l) in
       let rest : IsRead (suc m) (m ∷ drop (parts_of n) roots) (joined (parts_of n) n p s) ns ps =
-          read_all says (suc m) (suc (c - parts_of n)) (m ∷ drop (parts_of n) roots) (joined (parts_of n) n p s) ns ps
-          (read_one says m (parts_of n) roots s n p r (at_first nodes m n ns f.0) (at_first places m p ps f.1) refl enough)
-          (at_others nodes m n ns f.0, at_others places m p ps f.1) others behind w.1 in
+      read_all says (suc m) (suc (c - parts_of n)) (m ∷ drop (parts_of n) roots) (joined (parts_of n) n p s) ns ps
+      (read_one says m (parts_of n) roots s n p r (at_first nodes m n ns f.0) (at_first places m p ps f.1) refl enough)
+      (at_others nodes m n ns f.0, at_others places m p ps f.1) others behind w.1 in
       let z : suc m + length ns ≡ m + suc (length ns) = omega arith in
       record { terms = rest.terms; are = subst (λ k. AreRead k (roots_behind (suc m) (m ∷ drop (parts_of n) roots) ns) rest.terms) z rest.are; read = rest.read }
 
