@@ -1,5 +1,5 @@
 -- The points of a program stand in ascending order, that of comparisons last.
-use Rattle.std.proofs.Common.{ℕ, ◌*◌, length, arith}
+use Rattle.std.proofs.Common.{◌*◌, length, arith}
 use Rattle.sml_tree.specs.Points.{spots}
 use Rattle.sml_tree.proofs.Ascends.{spots_between, ascend_before}
 use Rattle.sml_def.specs.Run.{eq_point}
