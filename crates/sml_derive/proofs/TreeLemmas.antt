@@ -1,5 +1,5 @@
 -- A list of nodes, each behind its parts, has its trees where the numbers of the nodes before them say.
-use Rattle.std.proofs.Common.{◌≡◌, ◌<◌, ◌≤◌, ℕ, zero, suc, ◌+◌, ◌-◌, Bool, true, List, [], ◌∷◌, ◌++◌, length, get_or, slice_get, drop, reverse, Option, Some, None, refl, sym, ap, ◌∙◌, arith, rules, subst, ◌⊎◌, inl, inr}
+use Rattle.std.proofs.Common.{◌≡◌, ◌≤◌, ℕ, zero, suc, ◌+◌, ◌-◌, true, List, [], ◌∷◌, ◌++◌, length, slice_get, drop, reverse, Some, refl, sym, ap, ◌∙◌, arith, rules, subst}
 use Rattle.std.specs.Prelude.{nat_le}
 use Rattle.smlc_base.specs.declared.place.Place.{Place}
 use Rattle.sml_tree.specs.declared.tree_node.TreeNode.{TreeNode}
@@ -8,7 +8,7 @@ use Rattle.sml_tree.specs.Parts.{parts_of}
 use Rattle.sml_derive.specs.Terms.{Term, leaf, one, two, three, four, joined, reads, trees}
 use Rattle.std.proofs.lemmas.List.{length-drop, reverse-append}
 use Rattle.sml_derive.proofs.StartLemmas.{back, says_starts}
-use Rattle.sml_derive.specs.Starts.{before, starts_behind, starts_of, IsTree, is_leaf, is_one, is_two, is_three, is_four}
+use Rattle.sml_derive.specs.Starts.{before, starts_of, IsTree, is_leaf, is_one, is_two, is_three, is_four}
 
 -- no node has more than four parts
 few_parts : (n : TreeNode) → nat_le (parts_of n) 4 ≡ true
@@ -102,9 +102,9 @@ module _ (nodes : List TreeNode) (places : List Place) (starts : List ℕ) where
       let behind : suc (c - parts_of n) ≡ suc (length (drop (parts_of n) roots)) = omega (arith, left, e) in
       let others : length ns ≡ length ps = omega (arith, l) in
       let rest : IsRead (suc m) (m ∷ drop (parts_of n) roots) (joined (parts_of n) n p s) ns ps =
-          read_all says (suc m) (suc (c - parts_of n)) (m ∷ drop (parts_of n) roots) (joined (parts_of n) n p s) ns ps
-          (read_one says m (parts_of n) roots s n p r (at_first nodes m n ns f.0) (at_first places m p ps f.1) refl enough)
-          (at_others nodes m n ns f.0, at_others places m p ps f.1) others behind w.1 in
+      read_all says (suc m) (suc (c - parts_of n)) (m ∷ drop (parts_of n) roots) (joined (parts_of n) n p s) ns ps
+      (read_one says m (parts_of n) roots s n p r (at_first nodes m n ns f.0) (at_first places m p ps f.1) refl enough)
+      (at_others nodes m n ns f.0, at_others places m p ps f.1) others behind w.1 in
       let z : suc m + length ns ≡ m + suc (length ns) = omega arith in
       record { terms = rest.terms; are = subst (λ k. AreRead k (roots_behind (suc m) (m ∷ drop (parts_of n) roots) ns) rest.terms) z rest.are; read = rest.read }
 

@@ -6,6 +6,10 @@
 pub mod meaning;
 mod number;
 pub mod piece;
+pub mod refusals;
+pub mod scoped;
 pub mod starts;
+#[cfg(test)]
+mod tests;
 
 pub use meaning::{Meaning, TypeMeaning};
