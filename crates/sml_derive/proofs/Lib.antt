@@ -1,4 +1,5 @@
 pub mod PieceLemmas
 mod ReverseLemmas
+mod ScopedLemmas
 mod StartLemmas
 pub mod TreeLemmas

@@ -1,5 +1,5 @@
 -- A list of nodes, each behind its parts, has its trees where the numbers of the nodes before them say.
-use Rattle.std.proofs.Common.{◌≡◌, ◌<◌, ◌≤◌, ℕ, zero, suc, ◌+◌, ◌-◌, Bool, true, List, [], ◌∷◌, ◌++◌, length, get_or, slice_get, drop, reverse, Option, Some, None, refl, sym, ap, ◌∙◌, arith, rules, subst, ◌⊎◌, inl, inr}
+use Rattle.std.proofs.Common.{◌≡◌, ◌≤◌, ℕ, zero, suc, ◌+◌, ◌-◌, true, List, [], ◌∷◌, ◌++◌, length, slice_get, drop, reverse, Some, refl, sym, ap, ◌∙◌, arith, rules, subst}
 use Rattle.std.specs.Prelude.{nat_le}
 use Rattle.smlc_base.specs.declared.place.Place.{Place}
 use Rattle.sml_tree.specs.declared.tree_node.TreeNode.{TreeNode}
@@ -8,7 +8,7 @@ use Rattle.sml_tree.specs.Parts.{parts_of}
 use Rattle.sml_derive.specs.Terms.{Term, leaf, one, two, three, four, joined, reads, trees}
 use Rattle.std.proofs.lemmas.List.{length-drop, reverse-append}
 use Rattle.sml_derive.proofs.StartLemmas.{back, says_starts}
-use Rattle.sml_derive.specs.Starts.{before, starts_behind, starts_of, IsTree, is_leaf, is_one, is_two, is_three, is_four}
+use Rattle.sml_derive.specs.Starts.{before, starts_of, IsTree, is_leaf, is_one, is_two, is_three, is_four}
 
 -- no node has more than four parts
 few_parts : (n : TreeNode) → nat_le (parts_of n) 4 ≡ true

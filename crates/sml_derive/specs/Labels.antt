@@ -1,12 +1,12 @@
 -- Labels of records, and names that stand twice.
-use Rattle.std.specs.Prelude.{ℕ, suc, pos, Bool, true, false, not, ◌&&◌, ◌||◌, if◌then◌else◌, List, [], ◌∷◌, ◌++◌, count_by, nat_lt, nat_eq, int_lt}
+use Rattle.std.specs.Prelude.{ℕ, suc, pos, Bool, not, ◌||◌, if◌then◌else◌, List, [], ◌∷◌, ◌++◌, count_by}
 use Rattle.std.specs.List.{list_any}
 use Rattle.smlc_base.specs.declared.place.Place.{Place}
 use Rattle.smlc_base.specs.declared.refusal.Refusal.{Refusal}
 use Rattle.smlc_base.specs.declared.refusal.Refusal.TheVariants as refusal
 use Rattle.sml_tree.specs.IsBare.{lab_less}
 use Rattle.sml_tree.specs.declared.bare.Lab.{Lab}
-use Rattle.sml_tree.specs.declared.bare.Lab.TheVariants.{Num, Text}
+use Rattle.sml_tree.specs.declared.bare.Lab.TheVariants.{Num}
 
 abbrev pub lab_eq : Lab → Lab → Bool
 lab_eq x y = not (lab_less x y || lab_less y x)

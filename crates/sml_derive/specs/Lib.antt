@@ -1,5 +1,6 @@
 pub mod Bare
 pub mod Bindings
+pub mod Scoped
 pub mod Clauses
 pub mod Expressions
 pub mod Forests
@@ -8,6 +9,7 @@ pub mod Makings
 pub mod Patterns
 pub mod Pieces
 pub mod Programs
+pub mod Refusals
 pub mod Scopes
 pub mod Starts
 pub mod Terms

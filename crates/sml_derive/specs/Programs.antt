@@ -1,8 +1,6 @@
 -- Programs.
-use Rattle.std.specs.Prelude.{ℕ, suc, ◌+◌, Bool, true, false, ◌||◌, ◌&&◌, nat_lt, nat_eq, if◌then◌else◌, List, [], ◌∷◌, ◌++◌, Option, Some, None}
+use Rattle.std.specs.Prelude.{ℕ, suc, ◌+◌, Bool, true, false, ◌&&◌, if◌then◌else◌, List, [], ◌∷◌, ◌++◌}
 use Rattle.smlc_base.specs.declared.place.Place.{Place}
-use Rattle.smlc_base.specs.declared.refusal.Refusal.{Refusal}
-use Rattle.smlc_base.specs.Refusals.{number_of, place_of}
 use Rattle.sml_tree.specs.declared.bare.Node.{Node}
 use Rattle.sml_tree.specs.declared.bare.Node.TheVariants as bare
 use Rattle.sml_derive.specs.Terms.{Term, place_at}
@@ -62,24 +60,6 @@ shown_in i _ _ = []
 abbrev pub all_shown : ℕ → List Top → List ℕ
 all_shown i [] = []
 all_shown i (t ∷ tops) = shown_in i t.forest t.shown ++ all_shown (i + nested t.forest) tops
-
--- Refusals by place, then by number.
-abbrev pub place_before : Place → Place → Bool
-place_before p q = nat_lt p.file q.file || (nat_eq p.file q.file && (nat_lt p.line q.line || (nat_eq p.line q.line && nat_lt p.col q.col)))
-
-abbrev pub same_place : Place → Place → Bool
-same_place p q = nat_eq p.file q.file && nat_eq p.line q.line && nat_eq p.col q.col
-
-abbrev pub refusal_before : Refusal → Refusal → Bool
-refusal_before r t = place_before (place_of r) (place_of t) || (same_place (place_of r) (place_of t) && nat_lt (number_of r) (number_of t))
-
-abbrev pub lesser : Refusal → Option Refusal → Refusal
-lesser r None = r
-lesser r (Some t) = if refusal_before t r then t else r
-
-abbrev pub least : List Refusal → Option Refusal
-least [] = None
-least (r ∷ refusals) = Some (lesser r (least refusals))
 
 -- What a program expands to.
 pub record Expansion : Type 0 where
