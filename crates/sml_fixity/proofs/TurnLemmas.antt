@@ -14,7 +14,7 @@ use Rattle.sml_syntax.specs.Fixity.{Fix, looks}
 use Rattle.sml_syntax.specs.Machine.{after, has_infix, move_of, moves, pushed}
 use Rattle.syntax_laws.specs.Steps.{Comes, lead, Opens, emits, skips, eats}
 use Rattle.syntax_laws.proofs.Derived.{comes_good, finished_stuck}
-use Rattle.syntax_laws.proofs.Kept.{at_number, finished, skip_good}
+use Rattle.syntax_laws.proofs.Kept.{end_leaves, skip_good}
 use Rattle.sml_fixity.specs.declared.turns.Machine.{Machine}
 use Rattle.sml_fixity.specs.declared.turns.Turn.{Turn}
 use Rattle.sml_fixity.specs.Turns.{Acts, Shifts, stack_of, Stands}
@@ -44,8 +44,7 @@ pub eat_turn : (f g i : Fix) (r a : List Terminal) (t : Terminal) (s : Symbol) (
 eat_turn f g i r a t s p k l o q u h e =
     let P : List Symbol → Type 0 = λ l. Comes false f (r ++ t ∷ []) l (after s t g) a o × (t ≡ tok.Finish → l ≡ []) in
     let F : Fix → Type 0 = λ i. Comes false f (r ++ t ∷ []) l i a o × (t ≡ tok.Finish → l ≡ []) in
-    let T : Terminal → Type 0 = λ x. at_number false s g x (length (t ∷ a)) ≡ Eat p in
-    subst F (sym u) (subst P (sym q) (eats e h, λ z. finished false s p k g (length (t ∷ a)) (subst T z e) (comes_good h)))
+    subst F (sym u) (subst P (sym q) (eats e h, end_leaves false s p k g t (length (t ∷ a)) e (comes_good h)))
 
 pub popped : (xs ys : List Symbol) (x : Symbol) → xs ≡ ys ++ x ∷ [] → reverse xs ≡ x ∷ reverse ys
 popped xs ys x e = ap reverse e ∙ reverse-append ys (x ∷ [])
