@@ -164,6 +164,7 @@ module _ (p : Bare) where
   TypeStands i (type.Arrow a b) = (a < i) × (b < i)
   TypeStands i (type.Named t args) = AllByRecursion (λ a. a < i) args
   TypeStands i (type.Abbreviation t args) = AllByRecursion (λ a. a < i) args
+  TypeStands i (type.UnitOf args) = AllByRecursion (λ a. a < i) args
 
   abbrev pub OptionStands : Option ℕ → Type 0
   OptionStands (Some ty) = ty < length p.types
