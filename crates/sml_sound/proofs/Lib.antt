@@ -1,2 +1,5 @@
 pub mod Families
 pub mod Tables
+pub mod Grow
+pub mod Names
+pub mod Values
