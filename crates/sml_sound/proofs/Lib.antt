@@ -3,3 +3,6 @@ pub mod Tables
 pub mod Grow
 pub mod Names
 pub mod Values
+pub mod Options
+pub mod Environments
+pub mod Matching

@@ -31,7 +31,7 @@ prim_ty : (f : Primitive) (g : TyVar → Tree) → ((a : Tree) × (b : Tree) × 
 prim_ty prim.StdIn g = inr refl
 prim_ty _ g = inl (_, _, refl)
 
-exn_con : (e : LibraryExn) → (library_exn e ≡ exn_ty) ⊎ (library_exn e ≡ arrow string_ty exn_ty)
+pub exn_con : (e : LibraryExn) → (library_exn e ≡ exn_ty) ⊎ (library_exn e ≡ arrow string_ty exn_ty)
 exn_con exn.FailExn = inr refl
 exn_con _ = inl refl
 
