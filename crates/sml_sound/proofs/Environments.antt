@@ -99,7 +99,7 @@ module _ (p : Bare) (t : Typing) (sig : List Entry) where
       go false h = refl
   weaker false s n h = h
 
-  at_name : (xs : List ℕ) (P : ℕ → Type 0) → AllByRecursion P xs → (x : ℕ) → has xs x ≡ true → P x
+  pub at_name : (xs : List ℕ) (P : ℕ → Type 0) → AllByRecursion P xs → (x : ℕ) → has xs x ≡ true → P x
   at_name [] P h x m = cc
   at_name (y ∷ xs) P h x m = go (nat_eq x y) refl m (at_name xs P h.1 x)
     where

@@ -6,3 +6,6 @@ pub mod Values
 pub mod Options
 pub mod Environments
 pub mod Matching
+pub mod Rows
+pub mod Plain
+pub mod Safe

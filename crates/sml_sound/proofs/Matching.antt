@@ -37,6 +37,11 @@ use Rattle.sml_sound.proofs.Environments.{look_front, look_back}
 use Rattle.sml_sound.proofs.Options.{bind_some, when_some, if_some}
 use Rattle.sml_types.proofs.TreeFacts.{inst_inst}
 
+-- what is bound: each item has the type of its name, which is one of those; and all of these are there
+pub record Bound (p : Bare) (t : Typing) (sig : List Entry) (g : TyVar → Tree) (named all : List ℕ) (e : Env) : Type 0 where
+  pub items : AllByRecursion (λ b. HasTy p t sig b.1 (inst g (t.schemes b.0).body) × (has named b.0 ≡ true)) e
+  pub has_all : (x : ℕ) → has all x ≡ true → (v : Value) × (look e x ≡ Some v)
+
 module _ (p : Bare) (t : Typing) (typing : IsTyping p t) (numbered : IsNumbered p.nodes) (sorts : AllByRecursion (HasSorts p.nodes) p.nodes) (sig : List Entry) (bs : List Block) (store : StoreTy p t sig sig bs) where
   -- the block of a value, with the entry that gives it its type
   block_has : (v : Value) (u : Tree) (b : Block) → HasTy p t sig v u → block_of bs v ≡ Some b → (e : Entry) × BlockTy p t sig b e × EntryTy p t e u
@@ -165,12 +170,10 @@ module _ (p : Bare) (t : Typing) (typing : IsTyping p t) (numbered : IsNumbered 
         go None e = tt
         go (Some _) e = tt
 
-    -- what is bound: each item has the type of its name, which is one of those; and all of these are there
-    pub record Bound (named all : List ℕ) (e : Env) : Type 0 where
-      pub items : AllByRecursion (λ b. HasTy p t sig b.1 (inst g (t.schemes b.0).body) × (has named b.0 ≡ true)) e
-      pub has_all : (x : ℕ) → has all x ≡ true → (v : Value) × (look e x ≡ Some v)
+    abbrev Bind : List ℕ → List ℕ → Env → Type 0
+    Bind named all e = Bound p t sig g named all e
 
-    bound_none : (named all : List ℕ) → all ≡ [] → Bound named all []
+    bound_none : (named all : List ℕ) → all ≡ [] → Bind named all []
     bound_none named all e = record { items = tt; has_all = λ x m. let k = sym (ap (λ xs. has xs x) e) ∙ m in cc }
 
     items_more : (ns ms : List ℕ) → IsWithin ns ms → (e : Env) → AllByRecursion (λ b. HasTy p t sig b.1 (inst g (t.schemes b.0).body) × (has ns b.0 ≡ true)) e → AllByRecursion (λ b. HasTy p t sig b.1 (inst g (t.schemes b.0).body) × (has ms b.0 ≡ true)) e
@@ -181,7 +184,7 @@ module _ (p : Bare) (t : Typing) (typing : IsTyping p t) (numbered : IsNumbered 
     all_append P [] ys h k = k
     all_append P (x ∷ xs) ys h k = (h.0, all_append P xs ys h.1 k)
 
-    bound_join : (ns ms xs ys : List ℕ) (e r : Env) → Bound ns xs e → Bound ms ys r → Bound (ns ++ ms) (union xs ys) (e ++ r)
+    bound_join : (ns ms xs ys : List ℕ) (e r : Env) → Bind ns xs e → Bind ms ys r → Bind (ns ++ ms) (union xs ys) (e ++ r)
     bound_join ns ms xs ys e r h k = record {
       items = all_append (λ b. HasTy p t sig b.1 (inst g (t.schemes b.0).body) × (has (ns ++ ms) b.0 ≡ true)) e r (items_more ns (ns ++ ms) (λ z m. in_front ns ms z m) e h.items) (items_more ms (ns ++ ms) (λ z m. in_back ns ms z m) r k.items);
       has_all = λ x m. either (has xs x) (has ys x) ((v : Value) × (look (e ++ r) x ≡ Some v)) (sym (has-union xs ys x) ∙ m) (λ a. let v = h.has_all x a in (v.0, look_front e r x v.0 v.1)) (λ a. let v = k.has_all x a in go x v.0 v.1 (look e x) refl);
@@ -192,7 +195,7 @@ module _ (p : Bare) (t : Typing) (typing : IsTyping p t) (numbered : IsNumbered 
         go x v q None i = (v, look_back e r x i ∙ q)
 
     abbrev FitsTy : (ℕ → Value → Option Env) → Type 0
-    FitsTy part = (i : ℕ) (v : Value) → IsWithin (free p.nodes i) xs → HasTy p t sig v (inst g (t.types i)) → IfSome (part i v) (Bound (t.binds i) (binds p.nodes i))
+    FitsTy part = (i : ℕ) (v : Value) → IsWithin (free p.nodes i) xs → HasTy p t sig v (inst g (t.types i)) → IfSome (part i v) (Bind (t.binds i) (binds p.nodes i))
 
     have_at : (vs : List Value) (us : List Tree) (k : ℕ) (v : Value) (u : Tree) → HaveTys p t sig vs us → slice_get vs k ≡ Some v → slice_get us k ≡ Some u → HasTy p t sig v u
     have_at [] us k v u h e d = cc
@@ -204,14 +207,14 @@ module _ (p : Bare) (t : Typing) (typing : IsTyping p t) (numbered : IsNumbered 
     abbrev Placed : List Tree → List Field → Type 0
     Placed us fields = AllByRecursion (λ f. slice_get us f.slot ≡ Some (inst g (t.types f.node))) fields
 
-    fields_ty : (part : ℕ → Value → Option Env) → FitsTy part → (fields : List Field) (vs : List Value) (us : List Tree) → HaveTys p t sig vs us → Placed us fields → IsWithin (free_fields (free p.nodes) fields) xs → IfSome (fields_fit p env bs part fields vs) (Bound (bound_in p t fields) (union_over (λ f. binds p.nodes f.node) fields))
+    fields_ty : (part : ℕ → Value → Option Env) → FitsTy part → (fields : List Field) (vs : List Value) (us : List Tree) → HaveTys p t sig vs us → Placed us fields → IsWithin (free_fields (free p.nodes) fields) xs → IfSome (fields_fit p env bs part fields vs) (Bind (bound_in p t fields) (union_over (λ f. binds p.nodes f.node) fields))
     fields_ty part f [] vs us h q w = bound_none [] [] refl
     fields_ty part f (x ∷ fields) vs us h q w =
-        let B = Bound (bound_in p t (x ∷ fields)) (union_over (λ f. binds p.nodes f.node) (x ∷ fields)) in
+        let B = Bind (bound_in p t (x ∷ fields)) (union_over (λ f. binds p.nodes f.node) (x ∷ fields)) in
         bind_some B (slice_get vs x.slot) _ (λ v ev. bind_some B (part x.node v) _ (λ e he. bind_some B (fields_fit p env bs part fields vs) _ (λ r hr.
         bound_join (t.binds x.node) (bound_in p t fields) (binds p.nodes x.node) (union_over (λ f. binds p.nodes f.node) fields) e r
-        (if_some (Bound (t.binds x.node) (binds p.nodes x.node)) (part x.node v) e he (f x.node v (λ z m. w z (within_left (free p.nodes x.node) (free_fields (free p.nodes) fields) z m)) (have_at vs us x.slot v (inst g (t.types x.node)) h ev q.0)))
-        (if_some (Bound (bound_in p t fields) (union_over (λ f. binds p.nodes f.node) fields)) (fields_fit p env bs part fields vs) r hr (fields_ty part f fields vs us h q.1 (λ z m. w z (within_right (free p.nodes x.node) (free_fields (free p.nodes) fields) z m)))))))
+        (if_some (Bind (t.binds x.node) (binds p.nodes x.node)) (part x.node v) e he (f x.node v (λ z m. w z (within_left (free p.nodes x.node) (free_fields (free p.nodes) fields) z m)) (have_at vs us x.slot v (inst g (t.types x.node)) h ev q.0)))
+        (if_some (Bind (bound_in p t fields) (union_over (λ f. binds p.nodes f.node) fields)) (fields_fit p env bs part fields vs) r hr (fields_ty part f fields vs us h q.1 (λ z m. w z (within_right (free p.nodes x.node) (free_fields (free p.nodes) fields) z m)))))))
 
     get_map : (us : List Tree) (k : ℕ) (u : Tree) → slice_get us k ≡ Some u → slice_get (map (inst g) us) k ≡ Some (inst g u)
     get_map [] k u e = cc
@@ -222,60 +225,60 @@ module _ (p : Bare) (t : Typing) (typing : IsTyping p t) (numbered : IsNumbered 
     placed_in labs us [] h = tt
     placed_in labs us (f ∷ fields) h = (get_map us f.slot (t.types f.node) h.0.1, placed_in labs us fields h.1)
 
-    record_fit : (part : ℕ → Value → Option Env) → FitsTy part → (fields : List Field) (ty : Tree) (v : Value) → IsRecord (fields_of p t fields) ty → HasTy p t sig v (inst g ty) → IsWithin (free_fields (free p.nodes) fields) xs → IfSome (match.fields_of bs v >>= fields_fit p env bs part fields) (Bound (bound_in p t fields) (union_over (λ f. binds p.nodes f.node) fields))
+    record_fit : (part : ℕ → Value → Option Env) → FitsTy part → (fields : List Field) (ty : Tree) (v : Value) → IsRecord (fields_of p t fields) ty → HasTy p t sig v (inst g ty) → IsWithin (free_fields (free p.nodes) fields) xs → IfSome (match.fields_of bs v >>= fields_fit p env bs part fields) (Bind (bound_in p t fields) (union_over (λ f. binds p.nodes f.node) fields))
     record_fit part f fields ty v r h w =
         let us = map (inst g) r.types in
         let k = a_record p t typing sig bs store r.labs us v (subst (HasTy p t sig v) (ap (inst g) r.is ∙ ap (App (FieldsHead r.labs)) (inst_parts g r.types)) h) in
-        bind_some (Bound (bound_in p t fields) (union_over (λ f. binds p.nodes f.node) fields)) (match.fields_of bs v) _ (λ vs e.
+        bind_some (Bind (bound_in p t fields) (union_over (λ f. binds p.nodes f.node) fields)) (match.fields_of bs v) _ (λ vs e.
         let same : k.0 ≡ vs = (let d = k.1 in cc) in
         fields_ty part f fields vs us (subst (λ vs. HaveTys p t sig vs us) same k.2) (placed_in r.labs r.types fields r.placed) w)
 
-    one_bound : (named all : List ℕ) (x : ℕ) (v : Value) → HasTy p t sig v (inst g (t.schemes x).body) → named ≡ x ∷ [] → all ≡ x ∷ [] → Bound named all ((x, v) ∷ [])
+    one_bound : (named all : List ℕ) (x : ℕ) (v : Value) → HasTy p t sig v (inst g (t.schemes x).body) → named ≡ x ∷ [] → all ≡ x ∷ [] → Bind named all ((x, v) ∷ [])
     one_bound named all x v h en ea = record {
       items = ((h, ap (λ ys. has ys x) en ∙ or_left (nat_eq x x) false (eq-eqb x x refl)), tt);
       has_all = λ y m. either (nat_eq y x) false ((w : Value) × (look ((x, v) ∷ []) y ≡ Some w)) (sym (ap (λ ys. has ys y) ea) ∙ m) (λ a. (v, ap (λ q. cond q (Some v) None) a)) (λ a. cc);
     }
 
-    bound_is : (ns ms xs ys : List ℕ) (e : Env) → ns ≡ ms → xs ≡ ys → Bound ms ys e → Bound ns xs e
-    bound_is ns ms xs ys e q r h = subst (λ z. Bound z xs e) (sym q) (subst (λ z. Bound ms z e) (sym r) h)
+    bound_is : (ns ms xs ys : List ℕ) (e : Env) → ns ≡ ms → xs ≡ ys → Bind ms ys e → Bind ns xs e
+    bound_is ns ms xs ys e q r h = subst (λ z. Bind z xs e) (sym q) (subst (λ z. Bind ms z e) (sym r) h)
 
-    node_fits : (part : ℕ → Value → Option Env) → FitsTy part → (c : Context) (ty : Tree) (named all : List ℕ) (q : Node) → all ≡ binds_of (binds p.nodes) q → IsWithin (free_of (binds p.nodes) (free p.nodes) q) xs → IsTypedNode p t c ty named q → (v : Value) → HasTy p t sig v (inst g ty) → IfSome (fits_of p env bs part q v) (Bound named all)
+    node_fits : (part : ℕ → Value → Option Env) → FitsTy part → (c : Context) (ty : Tree) (named all : List ℕ) (q : Node) → all ≡ binds_of (binds p.nodes) q → IsWithin (free_of (binds p.nodes) (free p.nodes) q) xs → IsTypedNode p t c ty named q → (v : Value) → HasTy p t sig v (inst g ty) → IfSome (fits_of p env bs part q v) (Bind named all)
     node_fits part f c ty named all node.Wild e w r v h = bound_none named all e
-    node_fits part f c ty named all (node.PatInt m) e w r (Number k) h = when_some (Bound named all) _ [] (λ x. bound_none named all e)
-    node_fits part f c ty named all (node.PatChar m) e w r (Letter k) h = when_some (Bound named all) _ [] (λ x. bound_none named all e)
+    node_fits part f c ty named all (node.PatInt m) e w r (Number k) h = when_some (Bind named all) _ [] (λ x. bound_none named all e)
+    node_fits part f c ty named all (node.PatChar m) e w r (Letter k) h = when_some (Bind named all) _ [] (λ x. bound_none named all e)
     node_fits part f c ty named all (node.PatText m) e w r v h =
-        bind_some (Bound named all) (slice_get p.texts m) _ (λ ys a. bind_some (Bound named all) (bytes_of p bs v) _ (λ zs b. when_some (Bound named all) _ [] (λ x. bound_none named all e)))
+        bind_some (Bind named all) (slice_get p.texts m) _ (λ ys a. bind_some (Bind named all) (bytes_of p bs v) _ (λ zs b. when_some (Bind named all) _ [] (λ x. bound_none named all e)))
     node_fits part f c ty named all (node.PatVar x) e w r v h =
         one_bound named all x.0 v (subst (λ u. HasTy p t sig v (inst g u)) (sym r.0) h) r.1 e
-    node_fits part f c ty named all (node.PatCon k) e w r v h = when_some (Bound named all) _ [] (λ x. bound_none named all e)
+    node_fits part f c ty named all (node.PatCon k) e w r v h = when_some (Bind named all) _ [] (λ x. bound_none named all e)
     node_fits part f c ty named all (node.PatApp k q) e w r v h =
-        bind_some (Bound named all) (argument_of env bs k v) (part q) (λ u eu.
+        bind_some (Bind named all) (argument_of env bs k v) (part q) (λ u eu.
         bound_of (part q u) (f q u (λ z m. w z (within_right (exception_of k) (free p.nodes q) z m)) (subst (λ x. HasTy p t sig u (inst g x)) (sym r.3.1) (if_some (λ w. HasTy p t sig w (inst g r.0)) (argument_of env bs k v) u eu (argument_ty c k r.0 ty v r.1 r.2 (λ z m. w z (within_left (exception_of k) (free p.nodes q) z m)) h)))))
       where
-        bound_of : (o : Option Env) → IfSome o (Bound (t.binds q) (binds p.nodes q)) → IfSome o (Bound named all)
+        bound_of : (o : Option Env) → IfSome o (Bind (t.binds q) (binds p.nodes q)) → IfSome o (Bind named all)
         bound_of None k = tt
         bound_of (Some b) k = bound_is named (t.binds q) all (binds p.nodes q) b r.4 e k
     node_fits part f c ty named all (node.PatRecord fields) e w r v h =
         bound_of (match.fields_of bs v >>= fields_fit p env bs part fields) (record_fit part f fields ty v r.0.1 h w)
       where
-        bound_of : (o : Option Env) → IfSome o (Bound (bound_in p t fields) (union_over (λ f. binds p.nodes f.node) fields)) → IfSome o (Bound named all)
+        bound_of : (o : Option Env) → IfSome o (Bind (bound_in p t fields) (union_over (λ f. binds p.nodes f.node) fields)) → IfSome o (Bind named all)
         bound_of None k = tt
         bound_of (Some b) k = bound_is named (bound_in p t fields) all (union_over (λ f. binds p.nodes f.node) fields) b r.1 e k
     node_fits part f c ty named all (node.PatTyped q j) e w r v h =
         bound_of (part q v) (f q v w (subst (λ u. HasTy p t sig v (inst g u)) (sym r.0.1) h))
       where
-        bound_of : (o : Option Env) → IfSome o (Bound (t.binds q) (binds p.nodes q)) → IfSome o (Bound named all)
+        bound_of : (o : Option Env) → IfSome o (Bind (t.binds q) (binds p.nodes q)) → IfSome o (Bind named all)
         bound_of None k = tt
         bound_of (Some b) k = bound_is named (t.binds q) all (binds p.nodes q) b r.2 e k
     node_fits part f c ty named all (node.PatAs x q) e w r v h =
-        bind_some (Bound named all) (part q v) _ (λ b eb.
+        bind_some (Bind named all) (part q v) _ (λ b eb.
         bound_is named (x.0 ∷ t.binds q) all (union (x.0 ∷ []) (binds p.nodes q)) ((x.0, v) ∷ b) r.2 e
         (bound_join (x.0 ∷ []) (t.binds q) (x.0 ∷ []) (binds p.nodes q) ((x.0, v) ∷ []) b
         (one_bound (x.0 ∷ []) (x.0 ∷ []) x.0 v (subst (λ u. HasTy p t sig v (inst g u)) (sym r.0) h) refl refl)
-        (if_some (Bound (t.binds q) (binds p.nodes q)) (part q v) b eb (f q v w (subst (λ u. HasTy p t sig v (inst g u)) (sym r.1.1) h)))))
+        (if_some (Bind (t.binds q) (binds p.nodes q)) (part q v) b eb (f q v w (subst (λ u. HasTy p t sig v (inst g u)) (sym r.1.1) h)))))
     node_fits part f c ty named all _ e w r v h = tt
 
-    at_fits : (part : ℕ → Value → Option Env) → FitsTy part → (i : ℕ) (o : Option Node) → slice_get p.nodes i ≡ o → (v : Value) → IsWithin (free p.nodes i) xs → HasTy p t sig v (inst g (t.types i)) → IfSome (at_node (λ v. None) (λ part i. fits_of p env bs part) part i o v) (Bound (t.binds i) (binds p.nodes i))
+    at_fits : (part : ℕ → Value → Option Env) → FitsTy part → (i : ℕ) (o : Option Node) → slice_get p.nodes i ≡ o → (v : Value) → IsWithin (free p.nodes i) xs → HasTy p t sig v (inst g (t.types i)) → IfSome (at_node (λ v. None) (λ part i. fits_of p env bs part) part i o v) (Bind (t.binds i) (binds p.nodes i))
     at_fits part f i None e v w h = tt
     at_fits part f i (Some q) e v w h =
         node_fits part f (t.contexts i) (t.types i) (t.binds i) (binds p.nodes i) q (binds_unfold p.nodes numbered i q e) (subst (λ ys. IsWithin ys xs) (free_unfold p.nodes numbered i q e) w) (rule_at p t typing numbered sorts i q e) v h
@@ -286,6 +289,6 @@ module _ (p : Bare) (t : Typing) (typing : IsTyping p t) (numbered : IsNumbered 
         at_fits (within (λ v. None) (λ part i. fits_of p env bs part) k p.nodes) (within_fits k) i (slice_get p.nodes i) refl v w h
 
     -- what a value binds that fits a pattern
-    pub fits_ty : (i : ℕ) (v : Value) (e : Env) → fits p env bs i v ≡ Some e → IsWithin (free p.nodes i) xs → HasTy p t sig v (inst g (t.types i)) → Bound (t.binds i) (binds p.nodes i) e
+    pub fits_ty : (i : ℕ) (v : Value) (e : Env) → fits p env bs i v ≡ Some e → IsWithin (free p.nodes i) xs → HasTy p t sig v (inst g (t.types i)) → Bind (t.binds i) (binds p.nodes i) e
     fits_ty i v e he w h =
-        if_some (Bound (t.binds i) (binds p.nodes i)) (fits p env bs i v) e he (within_fits (length p.nodes) i v w h)
+        if_some (Bind (t.binds i) (binds p.nodes i)) (fits p env bs i v) e he (within_fits (length p.nodes) i v w h)

@@ -59,7 +59,7 @@ over_within f [] ys h = within_nil ys
 over_within f (x ∷ xs) ys h = within_both (f x) (union_over f xs) ys h.0 (over_within f xs ys h.1)
 
 module _ (p : Bare) (t : Typing) (typing : IsTyping p t) (numbered : IsNumbered p.nodes) (sorts : AllByRecursion (HasSorts p.nodes) p.nodes) where
-  at_all : {A : Type 0} (P : A → Type 0) (xs : List A) (i : ℕ) (x : A) → AllByRecursion P xs → slice_get xs i ≡ Some x → P x
+  pub at_all : {A : Type 0} (P : A → Type 0) (xs : List A) (i : ℕ) (x : A) → AllByRecursion P xs → slice_get xs i ≡ Some x → P x
   at_all P [] i x h e = cc
   at_all P (y ∷ xs) zero x h e = let same : y ≡ x = cc in subst P same h.0
   at_all P (y ∷ xs) (suc i) x h e = at_all P xs i x h.1 e
@@ -67,7 +67,7 @@ module _ (p : Bare) (t : Typing) (typing : IsTyping p t) (numbered : IsNumbered 
   pub sorts_at : (i : ℕ) (n : Node) → slice_get p.nodes i ≡ Some n → HasSorts p.nodes n
   sorts_at i n e = at_all (HasSorts p.nodes) p.nodes i n sorts e
 
-  get_lt : {A : Type 0} (xs : List A) (i : ℕ) (x : A) → slice_get xs i ≡ Some x → i < length xs
+  pub get_lt : {A : Type 0} (xs : List A) (i : ℕ) (x : A) → slice_get xs i ≡ Some x → i < length xs
   get_lt [] i x e = cc
   get_lt (y ∷ xs) zero x e = omega arith
   get_lt (y ∷ xs) (suc i) x e = let h = get_lt xs i x e in omega arith

@@ -89,7 +89,7 @@ module _ (p : Bare) (t : Typing) where
       )
 
   module _ (lib : BeginsWithLibrary t.forms t.names) where
-    row_at : (n : ℕ) (r : NameType) → slice_get (library lib.param) n ≡ Some r → (row : TypeName) × (slice_get t.names n ≡ Some row) × (name_type t.forms row ≡ r)
+    pub row_at : (n : ℕ) (r : NameType) → slice_get (library lib.param) n ≡ Some r → (row : TypeName) × (slice_get t.names n ≡ Some row) × (name_type t.forms row ≡ r)
     row_at n r e =
         row_of t.forms t.names n r (get_take 10 (name_types t.forms t.names) n r (ap (λ xs. slice_get xs n) lib.rows ∙ e))
 

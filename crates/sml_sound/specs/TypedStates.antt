@@ -1,5 +1,5 @@
 -- The types that values, blocks and states have in a typed program.
-use Rattle.std.specs.Prelude.{◌≡◌, ◌≢◌, ℕ, ◌<◌, Bool, true, false, ◌⊎◌, Option, Some, None, List, [], ◌∷◌, length, map, slice_get}
+use Rattle.std.specs.Prelude.{◌≡◌, ◌≢◌, ℕ, suc, ◌<◌, Bool, true, false, ◌⊎◌, Option, Some, None, List, [], ◌∷◌, length, map, slice_get}
 use Rattle.std.specs.List.{AllByRecursion}
 use Rattle.sml_tree.specs.declared.bare.Bare.{Bare}
 use Rattle.sml_tree.specs.declared.bare.Con.TheVariants as con
@@ -58,6 +58,23 @@ pub data Entry : Type 0 where
 -- the type of an exception constructor
 abbrev pub IsExnCon : Tree → Type 0
 IsExnCon u = (u ≡ exn_ty) ⊎ ((a : Tree) × (u ≡ arrow a exn_ty))
+
+-- ---- Addresses
+
+-- tuples and applied constructors name earlier blocks alone
+abbrev pub IsBelow : ℕ → Value → Type 0
+IsBelow a (At b) = b < a
+IsBelow a _ = Unit {0}
+
+abbrev pub Descends : ℕ → Block → Type 0
+Descends a (Tuple vs) = AllByRecursion (IsBelow a) vs
+Descends a (Applied k v) = IsBelow a v
+Descends a _ = Unit {0}
+
+-- blocks from an address on
+abbrev pub AllDescend : ℕ → List Block → Type 0
+AllDescend a [] = Unit {0}
+AllDescend a (b ∷ bs) = Descends a b × AllDescend (suc a) bs
 
 module _ (p : Bare) (t : Typing) where
   -- ---- Values
@@ -183,6 +200,7 @@ module _ (p : Bare) (t : Typing) where
     pub tyvars : List ℕ
     pub bind : AllByRecursion (IsBinding p t context (with_tyvars tyvars context)) bindings
     pub rights : AllByRecursion (λ b. IsExp b.right) bindings
+    pub pats : AllByRecursion (λ b. b.pat < length p.nodes) bindings
 
   abbrev pub free_of_match : List Rule → List ℕ
   free_of_match rules = free_match (binds p.nodes) (free p.nodes) rules
@@ -263,4 +281,5 @@ module _ (p : Bare) (t : Typing) where
   pub record IsTyped (s : State) : Type 0 where
     pub sig : List Entry
     pub store : StoreTy sig sig s.store
+    pub descend : AllDescend 0 s.store
     pub control : ControlTy sig s.control.control

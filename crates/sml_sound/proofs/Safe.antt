@@ -1,0 +1,279 @@
+-- A step of a typed state goes to a typed state.
+use Rattle.std.proofs.Common.{◌≡◌, ℕ, suc, ◌+◌, ◌<◌, Bool, true, false, List, [], ◌∷◌, ◌++◌, length, Option, Some, None, refl, sym, ap, ◌∙◌, subst, arith, ◌⊎◌, inl, inr}
+use Rattle.std.specs.Prelude.{IfSome, slice_get, map, flat_map, nat_eq, ◌||◌}
+use Rattle.std.specs.List.{AllByRecursion}
+use Rattle.std.proofs.lemmas.Bool.{eqb-true}
+use Rattle.sml_tree.specs.declared.bare.Bare.{Bare}
+use Rattle.sml_tree.specs.declared.bare.Node.{Node}
+use Rattle.sml_tree.specs.declared.bare.Node.TheVariants as node
+use Rattle.sml_tree.specs.declared.bare.Con.TheVariants as con
+use Rattle.sml_tree.specs.declared.bare.Field.{Field}
+use Rattle.sml_tree.specs.declared.bare.Rule.{Rule}
+use Rattle.sml_tree.specs.declared.bare.Binding.{Binding}
+use Rattle.sml_tree.specs.Sets.{has, union, union_over, without}
+use Rattle.sml_tree.specs.BareParts.{rule_parts}
+use Rattle.sml_tree.specs.Free.{free, binds, free_fields, scoped}
+use Rattle.sml_tree.specs.IsBare.{IsBare, IsOf, Expression, HasRules}
+use Rattle.sml_tree.proofs.Members.{IsWithin, within_left, within_right, within_head, within_tail, within_rest, within_both, in_or_not}
+use Rattle.sml_types.specs.declared.types.TyVar.{TyVar}
+use Rattle.sml_types.specs.Tree.{Tree, App, FieldsHead, inst}
+use Rattle.sml_types.specs.Poly.{Context, has_num, with_tyvars, IsFresh}
+use Rattle.sml_types.specs.NonExpansive.{AreNonExpansive, field_nodes}
+use Rattle.sml_types.specs.Typing.{Typing, IsTyping, IsMatch, AreClosed, IsBinding}
+use Rattle.simulation.specs.Stores.{Act, all_affected}
+use Rattle.simulation.proofs.Lists.{get_last, get_below}
+use Rattle.sml_def.specs.Maybe.{◌>>=◌}
+use Rattle.sml_def.specs.Memory.{Memory, Next, going, making, awaiting, making_all}
+use Rattle.sml_def.specs.State.{Value, Number, Letter, Nothing, Tag, Constant, Builtin, Maker, RefMaker, Library, At, Env, Address, Awaits, FieldPart, RightSide, Block, Tuple, Frame, Control, Eval, Ret, Focus, look, cut}
+use Rattle.sml_def.specs.Match.{fits, first_rule}
+use Rattle.sml_def.specs.Step.{env_of, env_of_fields, env_of_rest, by_rule, by_label, eval_fields, declare}
+use Rattle.sml_def.specs.Run as run
+use Rattle.sml_sound.specs.NeverStuck.{AreCovered}
+use Rattle.sml_sound.specs.TypedStates.{IsBelow, HaveTys, AreExps, IsRow, BeforeTy, free_of_rest, Agrees, Family, family, one, Entry, Holds, Takes, HasTy, HasScheme, EnvTy, EnvTys, Accepts, TakesAll, TakesAny, Fits, IsExp, IsFixed, AreRules, FrameTy, BlockTy, StoreTy, Descends, AllDescend, TakesNode, ControlTy, free_of_match}
+use Rattle.sml_sound.proofs.Families.{inst_parts, agrees_self, single}
+use Rattle.sml_sound.proofs.Grow.{store_up, block_up, store_len, store_append, envs_up, accepts_up}
+use Rattle.sml_sound.proofs.Names.{free_known, get_lt}
+use Rattle.sml_sound.proofs.Rows.{row_ty}
+use Rattle.sml_sound.proofs.Plain.{plain_first}
+use Rattle.sml_sound.proofs.Environments.{env_cut, env_same, env_within, look_front, look_back, look_all, at_name, AreFresh, env_spread}
+use Rattle.sml_sound.proofs.Matching.{Bound, fits_ty}
+use Rattle.sml_sound.proofs.Options.{or_some, if_some}
+
+pub descend_append : (a : ℕ) (xs ys : List Block) → AllDescend a xs → AllDescend (a + length xs) ys → AllDescend a (xs ++ ys)
+descend_append a [] ys h k = let e : a + 0 ≡ a = omega arith in subst (λ n. AllDescend n ys) e k
+descend_append a (x ∷ xs) ys h k =
+    let e : a + suc (length xs) ≡ suc a + length xs = omega arith in
+    (h.0, descend_append (suc a) xs ys h.1 (subst (λ n. AllDescend n ys) e k))
+
+-- what a step does to a typed store, and goes on with
+pub record IsSafeAct (p : Bare) (t : Typing) (blocks : List Block) (a : Act Focus Block) : Type 0 where
+  pub after : List Block
+  pub done : all_affected run.view (Some blocks) a.effects ≡ Some after
+  pub sig : List Entry
+  pub store : StoreTy p t sig sig after
+  pub descend : AllDescend 0 after
+  pub control : ControlTy p t sig a.next.control
+
+abbrev pub Safe : Bare → Typing → List Block → Next → Type 0
+Safe p t blocks None = ⊥
+Safe p t blocks (Some a) = IsSafeAct p t blocks a
+
+module _ (p : Bare) (t : Typing) (typing : IsTyping p t) (bare : IsBare p) (covered : AreCovered t.forms t.names) (m : Memory) (sig : List Entry) (store : StoreTy p t sig sig m.store) (descend : AllDescend 0 m.store) where
+  pub going_safe : (c : Control) → ControlTy p t sig c → Safe p t m.store (going m c)
+  going_safe c h = record { after = m.store; done = refl; sig = sig; store = store; descend = descend; control = h }
+
+  pub making_all_safe : (bs : List Block) (es : List Entry) (c : Control) → StoreTy p t (sig ++ es) es bs → AllDescend (length m.store) bs → ControlTy p t (sig ++ es) c → Safe p t m.store (making_all m bs c)
+  making_all_safe bs es c h d hc = record {
+    after = m.store ++ bs;
+    done = refl;
+    sig = sig ++ es;
+    store = store_append p t (sig ++ es) sig es m.store bs (store_up p t sig es sig m.store store) h;
+    descend = descend_append 0 m.store bs descend (let e : length m.store ≡ 0 + length m.store = omega arith in subst (λ n. AllDescend n bs) e d);
+    control = hc;
+  }
+
+  pub making_safe : (b : Block) (e : Entry) (f : Address → Control) → BlockTy p t sig b e → Descends (length m.store) b → ControlTy p t (sig ++ e ∷ []) (f (length m.store)) → Safe p t m.store (making m b f)
+  making_safe b e f hb d hc =
+      making_all_safe (b ∷ []) (e ∷ []) (f (length m.store)) (block_up p t sig (e ∷ []) b e hb, tt) (d, tt) hc
+
+  pub new_at : (e : Entry) → slice_get (sig ++ e ∷ []) (length m.store) ≡ Some e
+  new_at e = ap (slice_get (sig ++ e ∷ [])) (sym (store_len p t sig sig m.store store)) ∙ get_last sig e
+
+  pub accept_map : (full : List Entry) (k : Option Address) (P Q : Family → Bool → Type 0) → ((f : Family) (b : Bool) → P f b → Q f b) → Accepts p t full k P → Accepts p t full k Q
+  accept_map full (Some a) P Q f h = (h.0, h.1, h.2, f h.0 h.1 h.3)
+  accept_map full None P Q f h = tt
+
+  -- a block of these types comes back
+  pub made_safe : (b : Block) (f : Family) (k : Option Address) → BlockTy p t sig b (Holds f) → Descends (length m.store) b → Accepts p t sig k (TakesAll p t f) → Safe p t m.store (making m b (λ a. Ret (At a) k))
+  made_safe b f k hb d hk =
+      let more = Holds f ∷ [] in
+      making_safe b (Holds f) (λ a. Ret (At a) k) hb d
+      (accept_map (sig ++ more) k (TakesAll p t f) (Fits p t (sig ++ more) (At (length m.store))) (λ g b h. ((λ u i. (Holds f, new_at (Holds f), h.0 u i)), (λ e. let x = h.1 in cc))) (accepts_up p t sig more k (TakesAll p t f) hk))
+
+  pub awaiting_safe : (w : Awaits) (k : Option Address) (i : ℕ) (env : Env) (f : Family) (b : Bool) → FrameTy p t sig w f b k → f.ty ≡ t.types i → IsExp p t i → IsFixed p t f.gens i → EnvTys p t sig f (free p.nodes i) env → (b ≡ true → (n c : ℕ) × (slice_get p.nodes i ≡ Some (node.Constructor (con.Data n c true)))) → Safe p t m.store (awaiting m w k (Eval i env))
+  awaiting_safe w k i env f b hw ht he hg hn hb =
+      making_safe (Frame w k) (Takes f b) (λ a. Eval i env (Some a)) hw tt
+      (record { family = f; exp = he; ty = ht; fixed = hg; knows = envs_up p t sig (Takes f b ∷ []) f (free p.nodes i) env hn; takes = (f, b, new_at (Takes f b), ((λ u x. x), hb)) })
+
+  -- an expression is evaluated for one type
+  pub going_eval : (i : ℕ) (env : Env) (k : Option Address) (g : TyVar → Tree) → IsExp p t i → EnvTy p t sig g (free p.nodes i) env → Accepts p t sig k (TakesAll p t (one g (t.types i))) → Safe p t m.store (going m (Eval i env k))
+  going_eval i env k g he hn hk =
+      going_safe (Eval i env k)
+      (record { family = one g (t.types i); exp = he; ty = refl; fixed = inl refl; knows = (λ h a. env_same p t sig g h (free p.nodes i) env a hn); takes = accept_map sig k (TakesAll p t (one g (t.types i))) (TakesNode p t i (one g (t.types i))) (λ f b h. (h.0, (λ e. let x = h.1 in cc))) hk })
+
+  -- ---- What a pattern binds
+
+  -- under substitutions that are one but for what its names generalise
+  abbrev BoundUnder : (TyVar → Tree) → ℕ → Env → Type 0
+  BoundUnder h i e = Bound p t sig h (t.binds i) (binds p.nodes i) e
+
+  bound_scheme : (gens : List TyVar) (g : TyVar → Tree) (i : ℕ) (e : Env) → ((h : TyVar → Tree) → Agrees gens g h → BoundUnder h i e) → AreClosed p t gens (t.binds i) → (x : ℕ) (v : Value) → look e x ≡ Some v → HasScheme p t sig g x v
+  bound_scheme gens g i e hb closed x v ev h agr =
+      let here = look_all (λ b. HasTy p t sig b.1 (inst g (t.schemes b.0).body) × (has (t.binds i) b.0 ≡ true)) e x v (hb g (agrees_self gens g)).items ev in
+      let vars : (t.schemes x).vars ≡ gens = at_name p t sig (t.binds i) (λ x. (t.schemes x).vars ≡ gens) closed x here.1 in
+      (look_all (λ b. HasTy p t sig b.1 (inst h (t.schemes b.0).body) × (has (t.binds i) b.0 ≡ true)) e x v (hb h (subst (λ vs. Agrees vs g h) vars agr)).items ev).0
+
+  -- what is bound in front of an environment
+  pub joined : (g : TyVar → Tree) (all ys xs : List ℕ) (e env : Env) → ((x : ℕ) (v : Value) → look e x ≡ Some v → HasScheme p t sig g x v) → ((x : ℕ) → has all x ≡ true → (v : Value) × (look e x ≡ Some v)) → EnvTy p t sig g ys env → ((x : ℕ) → has xs x ≡ true → has all x ≡ false → has ys x ≡ true) → EnvTy p t sig g xs (e ++ env)
+  joined g all ys xs e env hs ha he w x mx = go (look e x) refl
+    where
+      go : (o : Option Value) → look e x ≡ o → (v : Value) × (look (e ++ env) x ≡ Some v) × HasScheme p t sig g x v
+      go (Some v) ev = (v, look_front e env x v ev, hs x v ev)
+      go None ev =
+          in_or_not all x ((v : Value) × (look (e ++ env) x ≡ Some v) × HasScheme p t sig g x v) (λ a. let v = ha x a in let x = sym ev ∙ v.1 in cc) (λ a. let k = he x (w x mx a) in (k.0, look_back e env x ev ∙ k.1, k.2))
+
+  -- with what a value binds that has all types of a pattern
+  pub bound_env : (gens : List TyVar) (g : TyVar → Tree) (i : ℕ) (v : Value) (e env : Env) (ys xs : List ℕ) → fits p env m.store i v ≡ Some e → ((h : TyVar → Tree) → Agrees gens g h → HasTy p t sig v (inst h (t.types i)) × EnvTy p t sig h (free p.nodes i) env) → AreClosed p t gens (t.binds i) → EnvTy p t sig g ys env → ((x : ℕ) → has xs x ≡ true → has (binds p.nodes i) x ≡ false → has ys x ≡ true) → EnvTy p t sig g xs (e ++ env)
+  bound_env gens g i v e env ys xs he hv closed hn w =
+      joined g (binds p.nodes i) ys xs e env (bound_scheme gens g i e under closed) (under g (agrees_self gens g)).has_all hn w
+    where
+      under : (h : TyVar → Tree) → Agrees gens g h → BoundUnder h i e
+      under h agr =
+          let k = hv h agr in
+          fits_ty p t typing bare.numbered bare.sorts sig m.store store h (free p.nodes i) env k.1 i v e he (λ z m. m) k.0
+
+  -- ---- Rules
+
+  abbrev RuleTy : (TyVar → Tree) → Tree → Env → Env × ℕ → Type 0
+  RuleTy g b env r = EnvTy p t sig g (free p.nodes r.1) (r.0 ++ env) × (t.types r.1 ≡ b) × IsExp p t r.1
+
+  first_ty : (g : TyVar → Tree) (env : Env) (c : Context) (a b : Tree) (rules : List Rule) → IsMatch p t rules c a b → AllByRecursion (λ r. IsExp p t r.body) rules → EnvTy p t sig g (free_of_match p t rules) env → (v : Value) → HasTy p t sig v (inst g a) → IfSome (first_rule p env m.store rules v) (RuleTy g b env)
+  first_ty g env c a b [] h x he v hv = tt
+  first_ty g env c a b (r ∷ rules) h x he v hv =
+      let scope = scoped (binds p.nodes) (free p.nodes) r.pat r.body in
+      let rest = free_of_match p t rules in
+      or_some (λ o. IfSome o (RuleTy g b env)) (fits p env m.store r.pat v) _ _ (λ e fe. (
+        bound_env [] g r.pat v e env (free_of_match p t (r ∷ rules)) (free p.nodes r.body) fe (λ k agr. (subst (HasTy p t sig v) (ap (inst g) (sym h.0.0.1) ∙ single_at g k (t.types r.pat) agr) hv, env_same p t sig g k (free p.nodes r.pat) env agr (env_within p t sig g (free p.nodes r.pat) (free_of_match p t (r ∷ rules)) env (λ z q. within_left scope rest z (within_left (free p.nodes r.pat) (without (free p.nodes r.body) (binds p.nodes r.pat)) z q)) he))) h.0.2 he (λ z q n. within_left scope rest z (within_right (free p.nodes r.pat) (without (free p.nodes r.body) (binds p.nodes r.pat)) z (within_rest (free p.nodes r.body) (binds p.nodes r.pat) z q n))),
+        h.0.1.1,
+        x.0,
+      )) (first_ty g env c a b rules h.1 x.1 (env_within p t sig g rest (free_of_match p t (r ∷ rules)) env (within_right scope rest) he) v hv)
+    where
+      single_at : (g k : TyVar → Tree) (u : Tree) → Agrees [] g k → inst g u ≡ inst k u
+      single_at g k u agr = sym (single (one g u) (inst k u) refl (k, agr, refl))
+
+  pub rule_safe : (rules : List Rule) (env : Env) (v : Value) (k : Option Address) (other : Control) (g : TyVar → Tree) (a b : Tree) → AreRules p t rules a b → EnvTy p t sig g (free_of_match p t rules) env → HasTy p t sig v (inst g a) → Accepts p t sig k (TakesAll p t (one g b)) → ControlTy p t sig other → Safe p t m.store (by_rule p m rules env v k other)
+  rule_safe rules env v k other g a b r he hv hk ho =
+      or_some (Safe p t m.store) (first_rule p env m.store rules v) _ _ (λ q eq.
+      let h = if_some (RuleTy g b env) (first_rule p env m.store rules v) q eq (first_ty g env r.context a b rules r.match r.bodies he v hv) in
+      going_eval q.1 (env_of p q.1 (q.0 ++ env)) k g h.2 (env_cut p t sig g (free p.nodes q.1) (free p.nodes q.1) (q.0 ++ env) (λ z m. m) h.0) (subst (λ u. Accepts p t sig k (TakesAll p t (one g u))) (sym h.1) hk)) (going_safe other ho)
+
+  pub known : {A : Type 0} (o : Option A) (x : A) (f : A → Next) → o ≡ Some x → Safe p t m.store (f x) → Safe p t m.store (o >>= f)
+  known o x f e h = subst (λ r. Safe p t m.store (r >>= f)) (sym e) h
+
+  -- ---- Nodes
+
+  exp_of : (c : ℕ) → c < length p.nodes → IsOf p.nodes Expression c → IsExp p t c
+  exp_of c lt h = let n = get_below p.nodes c lt in (n.0, n.1, h n.0 n.1)
+
+  rules_exp : (i : ℕ) (rules : List Rule) → HasRules p.nodes rules → AllByRecursion (λ c. (i < c) × (c < length p.nodes)) (flat_map rule_parts rules) → AllByRecursion (λ r. IsExp p t r.body) rules
+  rules_exp i [] s h = tt
+  rules_exp i (r ∷ rules) s h = (exp_of r.body h.1.0.1 s.0.1, rules_exp i rules s.1 h.1.1)
+
+  fields_exp : (i : ℕ) (fields : List Field) → AllByRecursion (λ f. IsOf p.nodes Expression f.node) fields → AllByRecursion (λ c. (i < c) × (c < length p.nodes)) (map (λ f. f.node) fields) → AreExps p t fields
+  fields_exp i [] s h = tt
+  fields_exp i (f ∷ fields) s h = (exp_of f.node h.0.1 s.0, fields_exp i fields s.1 h.1)
+
+  back : (i : ℕ) (v : Value) (k : Option Address) (f : Family) → f.ty ≡ t.types i → ((h : TyVar → Tree) → Agrees f.gens f.at h → HasTy p t sig v (inst h (t.types i))) → Accepts p t sig k (TakesAll p t f) → Safe p t m.store (going m (Ret v k))
+  back i v k f e hv hk =
+      going_safe (Ret v k)
+      (accept_map sig k (TakesAll p t f) (Fits p t sig v) (λ g b h. ((λ u x. let y = h.0 u x in subst (HasTy p t sig v) (sym (y.2 ∙ ap (inst y.0) e)) (hv y.0 y.1)), (λ e. let x = h.1 in cc))) hk)
+
+  takes_plain : (i : ℕ) (q : Node) (k : Option Address) (f : Family) → slice_get p.nodes i ≡ Some q → ((n c : ℕ) → q ≡ node.Constructor (con.Data n c true) → ⊥) → Accepts p t sig k (TakesNode p t i f) → Accepts p t sig k (TakesAll p t f)
+  takes_plain i q k f e never hk = accept_map sig k (TakesNode p t i f) (TakesAll p t f) (λ g b h. (h.0, go b h.1)) hk
+    where
+      go : (b : Bool) → (b ≡ true → (n c : ℕ) × (slice_get p.nodes i ≡ Some (node.Constructor (con.Data n c true)))) → b ≡ false
+      go true h =
+          let x = h refl in
+          absurd (never x.0 x.1 (let y : Some q ≡ Some (node.Constructor (con.Data x.0 x.1 true)) = sym e ∙ x.2 in cc))
+      go false h = refl
+
+  mono_takes : (i : ℕ) (f : Family) (k : Option Address) → f.ty ≡ t.types i → f.gens ≡ [] → Accepts p t sig k (TakesAll p t f) → Accepts p t sig k (TakesAll p t (one f.at (t.types i)))
+  mono_takes i f k e n hk =
+      accept_map sig k (TakesAll p t f) (TakesAll p t (one f.at (t.types i))) (λ g b h. ((λ u x. (f.at, agrees_self [] f.at, single f u n (h.0 u x) ∙ ap (inst f.at) e)), h.1)) hk
+
+  envs_cut : (f : Family) (xs ys : List ℕ) (env : Env) → IsWithin xs ys → EnvTys p t sig f ys env → EnvTys p t sig f xs (cut xs env)
+  envs_cut f xs ys env w h g a = env_cut p t sig g xs ys env w (h g a)
+
+  any_takes : (k : Option Address) (f : Family) → Accepts p t sig k (TakesAll p t f) → Accepts p t sig k (TakesAny p t)
+  any_takes k f hk = accept_map sig k (TakesAll p t f) (TakesAny p t) (λ g b h. tt) hk
+
+  -- ---- Records
+
+  below : (v : Value) (u : Tree) → HasTy p t sig v u → IsBelow (length m.store) v
+  below (At a) u h =
+      let lt = get_lt p t typing bare.numbered bare.sorts sig a h.0 h.1 in omega (arith, lt, store_len p t sig sig m.store store)
+  below (Number z) u h = tt
+  below (Letter c) u h = tt
+  below Nothing u h = tt
+  below (Tag k) u h = tt
+  below (Constant c) u h = tt
+  below (Builtin f) u h = tt
+  below (Maker k) u h = tt
+  below RefMaker u h = tt
+  below (Library e) u h = tt
+
+  have_below : (vs : List Value) (us : List Tree) → HaveTys p t sig vs us → AllByRecursion (IsBelow (length m.store)) vs
+  have_below [] us h = tt
+  have_below (v ∷ vs) [] h = absurd h
+  have_below (v ∷ vs) (u ∷ us) h = (below v u h.0, have_below vs us h.1)
+
+  eval_fields_safe : (fields rest : List Field) (before : List Value) (env : Env) (k : Option Address) (f : Family) → IsRow p t fields f.ty → AreExps p t rest → (f.gens ≡ []) ⊎ AreNonExpansive p.nodes (field_nodes rest) → ((h : TyVar → Tree) → Agrees f.gens f.at h → BeforeTy p t sig h before fields rest) → EnvTys p t sig f (free_fields (free p.nodes) rest) env → Accepts p t sig k (TakesAll p t f) → Safe p t m.store (eval_fields p m fields before rest env k)
+  eval_fields_safe fields [] before env k f r x hg hb he hk =
+      made_safe (Tuple (by_label fields before)) f k
+      (λ u i. (r.0.labs, map (inst i.0) r.0.types, i.2 ∙ ap (inst i.0) r.0.is ∙ ap (App (FieldsHead r.0.labs)) (inst_parts i.0 r.0.types), row_ty p t sig i.0 fields before f.ty r.0 r.1 (hb i.0 i.1)))
+      (have_below (by_label fields before) (map (inst f.at) r.0.types) (row_ty p t sig f.at fields before f.ty r.0 r.1 (hb f.at (agrees_self f.gens f.at)))) hk
+  eval_fields_safe fields (c ∷ later) before env k f r x hg hb he hk =
+      let here = free p.nodes c.node in
+      let rest = free_fields (free p.nodes) later in
+      let g : Family = family f.at f.gens (t.types c.node) in
+      awaiting_safe (FieldPart c.node fields before later (env_of_fields p later env)) k c.node (env_of p c.node env) g false (refl, c, f.ty, refl, r, x.1, fixed_rest hg, hb, envs_cut g rest (union here rest) env (within_right here rest) he, hk) refl x.0 (fixed_first hg) (envs_cut g here (union here rest) env (within_left here rest) he) (λ e. cc)
+    where
+      fixed_first : (f.gens ≡ []) ⊎ AreNonExpansive p.nodes (field_nodes (c ∷ later)) → IsFixed p t f.gens c.node
+      fixed_first (inl e) = inl e
+      fixed_first (inr n) = inr (plain_first p.nodes c.node (field_nodes later) n).0
+
+      fixed_rest : (f.gens ≡ []) ⊎ AreNonExpansive p.nodes (field_nodes (c ∷ later)) → (f.gens ≡ []) ⊎ AreNonExpansive p.nodes (field_nodes later)
+      fixed_rest (inl e) = inl e
+      fixed_rest (inr n) = inr (plain_first p.nodes c.node (field_nodes later) n).1
+
+  -- ---- Value declarations
+
+  abbrev needed : List Binding → ℕ → List ℕ
+  needed bs body =
+      union (union_over (λ b. free p.nodes b.pat) bs) (union (union_over (λ b. free p.nodes b.right) bs) (without (free p.nodes body) (union_over (λ b. binds p.nodes b.pat) bs)))
+
+  all_fresh : (c : Context) (gens : List TyVar) → AllByRecursion (λ v. IsFresh t.schemes c v.num) gens → AreFresh p t sig c gens
+  all_fresh c [] h w n = cc
+  all_fresh c (v ∷ gens) h w n = go (nat_eq w.num v.num) refl n (all_fresh c gens h.1 w)
+    where
+      go : (b : Bool) → nat_eq w.num v.num ≡ b → (b || has_num gens w.num) ≡ true → (has_num gens w.num ≡ true → IsFresh t.schemes c w.num) → IsFresh t.schemes c w.num
+      go true e n rest = subst (IsFresh t.schemes c) (sym (eqb-true w.num v.num e)) h.0
+      go false e n rest = rest n
+
+  exp_lt : (i : ℕ) → IsExp p t i → i < length p.nodes
+  exp_lt i h = get_lt p t typing bare.numbered bare.sorts p.nodes i h.0 h.1
+
+  declare_safe : (bs : List Binding) (body : ℕ) (env : Env) (k : Option Address) (g : TyVar → Tree) (c : Context) (us : List ℕ) → AllByRecursion (IsBinding p t c (with_tyvars us c)) bs → AllByRecursion (λ b. IsExp p t b.right) bs → AllByRecursion (λ b. b.pat < length p.nodes) bs → IsExp p t body → EnvTy p t sig g (needed bs body) env → Accepts p t sig k (TakesAll p t (one g (t.types body))) → Safe p t m.store (declare p m bs body env k)
+  declare_safe [] body env k g c us hb hr hp hx he hk =
+      going_eval body (env_of p body env) k g hx (env_cut p t sig g (free p.nodes body) (needed [] body) env (λ z q. within_rest (free p.nodes body) [] z q refl) he) hk
+  declare_safe (b ∷ later) body env k g c us hb hr hp hx he hk =
+      let gens = t.gens b.right in
+      let f : Family = family g gens (t.types b.right) in
+      let pats = union_over (λ b. free p.nodes b.pat) (b ∷ later) in
+      let rights = union_over (λ b. free p.nodes b.right) (b ∷ later) in
+      let rest = without (free p.nodes body) (union_over (λ b. binds p.nodes b.pat) (b ∷ later)) in
+      let own = free p.nodes b.right in
+      awaiting_safe (RightSide b later body (env_of_rest p b later body env)) k b.right (env_of p b.right env) f false
+      (
+        refl,
+        refl,
+        refl,
+        record { context = c; tyvars = us; bind = hb; rights = hr; pats = hp },
+        hx,
+        env_cut p t sig g (free_of_rest p t b later body) (needed (b ∷ later) body) env (within_both pats (union (union_over (λ b. free p.nodes b.right) later) rest) (needed (b ∷ later) body) (within_left pats (union rights rest)) (within_both (union_over (λ b. free p.nodes b.right) later) rest (needed (b ∷ later) body) (λ z q. within_right pats (union rights rest) z (within_left rights rest z (within_tail (λ b. free p.nodes b.right) b later z q))) (λ z q. within_right pats (union rights rest) z (within_right rights rest z q)))) he,
+        hk,
+      )
+      refl hr.0 hb.0.2.1
+      (λ h agr. env_spread p t sig c gens g h own (env_of p b.right env) agr (all_fresh c gens hb.0.2.0) (subst (λ (d : Context). IsWithin own d.names) hb.0.1.0 (free_known p t typing bare.numbered bare.sorts b.right (exp_lt b.right hr.0)))
+      (env_cut p t sig g own (needed (b ∷ later) body) env (λ z q. within_right pats (union rights rest) z (within_left rights rest z (within_head (λ b. free p.nodes b.right) b later z q))) he))
+      (λ e. cc)
