@@ -6,7 +6,7 @@ use Rattle.std.specs.List.{AllByRecursion, cons_option}
 use Rattle.std.proofs.lemmas.Bool.{eqb-true}
 use Rattle.sml_tree.specs.declared.bare.Bare.{Bare}
 use Rattle.sml_tree.specs.Sets.{has}
-use Rattle.sml_tree.proofs.Members.{IsWithin}
+use Rattle.sml_tree.proofs.Members.{IsWithin, in_or_not}
 use Rattle.sml_types.specs.declared.types.TyVar.{TyVar}
 use Rattle.sml_types.specs.Tree.{Tree, occurs}
 use Rattle.sml_types.specs.Poly.{Poly, Context, has_num, is_free, mono, scheme_in, is_in, IsFresh}
@@ -115,3 +115,12 @@ module _ (p : Bare) (t : Typing) (sig : List Entry) where
   -- where they are one everywhere
   pub env_same : (g h : TyVar → Tree) (xs : List ℕ) (env : Env) → Agrees [] g h → EnvTy p t sig g xs env → EnvTy p t sig h xs env
   env_same g h xs env agr e x m = let k = e x m in (k.0, k.1, scheme_spread [] g h agr x k.0 (λ v n. cc) k.2)
+
+  -- what is bound in front of an environment
+  pub joined : (g : TyVar → Tree) (all ys xs : List ℕ) (e env : Env) → ((x : ℕ) (v : Value) → look e x ≡ Some v → HasScheme p t sig g x v) → ((x : ℕ) → has all x ≡ true → (v : Value) × (look e x ≡ Some v)) → EnvTy p t sig g ys env → ((x : ℕ) → has xs x ≡ true → has all x ≡ false → has ys x ≡ true) → EnvTy p t sig g xs (e ++ env)
+  joined g all ys xs e env hs ha he w x mx = go (look e x) refl
+    where
+      go : (o : Option Value) → look e x ≡ o → (v : Value) × (look (e ++ env) x ≡ Some v) × HasScheme p t sig g x v
+      go (Some v) ev = (v, look_front e env x v ev, hs x v ev)
+      go None ev =
+          in_or_not all x ((v : Value) × (look (e ++ env) x ≡ Some v) × HasScheme p t sig g x v) (λ a. let v = ha x a in let x = sym ev ∙ v.1 in cc) (λ a. let k = he x (w x mx a) in (k.0, look_back e env x ev ∙ k.1, k.2))

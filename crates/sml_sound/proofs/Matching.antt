@@ -91,7 +91,7 @@ module _ (p : Bare) (t : Typing) (typing : IsTyping p t) (numbered : IsNumbered 
 
   module _ (g : TyVar → Tree) (xs : List ℕ) (env : Env) (known : EnvTy p t sig g xs env) where
     -- the value of an exception constructor
-    exn_value : (c : Context) (x : ℕ) (u : Tree) (v : Value) → has xs x ≡ true → IsInstance t.names (t.schemes x) u → look env x ≡ Some v → HasTy p t sig v (inst g u)
+    pub exn_value : (c : Context) (x : ℕ) (u : Tree) (v : Value) → has xs x ≡ true → IsInstance t.names (t.schemes x) u → look env x ≡ Some v → HasTy p t sig v (inst g u)
     exn_value c x u v m i e =
         let k = known x m in
         let same : k.0 ≡ v = (let d = k.1 in cc) in
