@@ -1,4 +1,18 @@
 -- A step of a typed state goes to a typed state.
+use Rattle.sml_tree.specs.BareParts.{node_parts}
+use Rattle.sml_tree.specs.declared.bare.Lab.{Lab}
+use Rattle.sml_types.specs.Library.{parts}
+use Rattle.sml_tree.specs.declared.bare.LibraryExn.{LibraryExn}
+use Rattle.sml_types.specs.TypeExps.{Labelled}
+use Rattle.sml_types.specs.Library.{exn_ty, tuple}
+use Rattle.sml_types.specs.Poly.{is_in}
+use Rattle.sml_sound.proofs.Values.{exn_con}
+use Rattle.sml_sound.proofs.Families.{at_in}
+use Rattle.sml_sound.specs.TypedStates.{ApplyTy, AreRules, AreBindings, BlockTy, FrameTy}
+use Rattle.sml_def.specs.State.{Raise, Apply, FieldPart, ArgumentPart, RightSide}
+use Rattle.sml_def.specs.Builtin.{raising}
+use Rattle.sml_def.specs.Step.{eval_dec, eval, eval_record, eval_fields, declare, env_of_match, env_of_fields, env_of_rest, resume, ret, bind, raised, raised_to, by_rule}
+use Rattle.sml_tree.specs.declared.bare.LibraryExn.TheVariants as exn
 use Rattle.sml_sound.specs.TypedStates.{Names}
 use Rattle.std.proofs.Common.{zero, append_assoc, length-append, ⊎_elim}
 use Rattle.sml_types.specs.Typing.{IsTypedNode}
@@ -540,3 +554,264 @@ module _ (p : Bare) (t : Typing) (typing : IsTyping p t) (bare : IsBare p) (cove
       (eval_ty full body (env_of p body all) k g hx (env_cut p t full g (free p.nodes body) (free p.nodes body) all (λ z m. m) (joined p t full g (names_of bs) rest (free p.nodes body) group env (scheme g (agrees_self gens g)) (group_has (length m.store) bs) (env_within p t full g rest (union own rest) env (within_right own rest) env_full) (λ z a b. within_rest (free p.nodes body) (names_of bs) z a b))) (accepts_up p t sig more k (TakesAll p t (one g (t.types body))) hk)))
   eval_dec_safe d body (node.NoException x) env k g ed sd r hx he hk = absurd r
   eval_dec_safe d body _ env k g ed sd r hx he hk = cc
+
+  -- ---- Eval
+
+  ret_con : (i : ℕ) (v : Value) (k : Option Address) (f : Family) → f.ty ≡ t.types i → ((h : TyVar → Tree) → Agrees f.gens f.at h → HasTy p t sig v (inst h (t.types i))) → ((n c : ℕ) → slice_get p.nodes i ≡ Some (node.Constructor (con.Data n c true)) → IsMaker p t v) → Accepts p t sig k (TakesNode p t i f) → Safe p t m.store (going m (Ret v k))
+  ret_con i v k f e hv hm hk =
+      going_safe (Ret v k)
+      (accept_map sig k (TakesNode p t i f) (Fits p t sig v) (λ g b h. ((λ u x. let y = h.0 u x in subst (HasTy p t sig v) (sym (y.2 ∙ ap (inst y.0) e)) (hv y.0 y.1)), (λ e. let y = h.1 e in hm y.0 y.1 y.2))) hk)
+
+  stands_at : (i : ℕ) (q : Node) → slice_get p.nodes i ≡ Some q → Stands p q
+  stands_at i q e = at_all p t typing bare.numbered bare.sorts (Stands p) p.nodes i q bare.stands e
+
+  -- a constructor as a value
+  con_safe : (i : ℕ) (c : Context) (q : Con) (env : Env) (k : Option Address) (f : Family) → slice_get p.nodes i ≡ Some (node.Constructor q) → HasConTy p t c q (t.types i) → f.ty ≡ t.types i → EnvTys p t sig f (exception_of q) env → Accepts p t sig k (TakesNode p t i f) → Safe p t m.store (con_value env q >>= λ v. going m (Ret v k))
+  con_safe i c (con.Data n j true) env k f ei r e he hk =
+      let d = data_takes p t n j r.0 r.1 in
+      let mk : IsMaking p t j (record { name = n; params = d.0; arg = d.1 }) = record { is_con = d.2; covers = con_covers p t covered n j d.0 d.1 d.2; new = new_con p t typing n j true (stands_at i (node.Constructor (con.Data n j true)) ei).0 } in
+      ret_con i (Maker j) k f e
+      (λ h a. (record { name = n; params = d.0; arg = d.1 }, (λ w. inst h (r.2.at w)), mk, ap (inst h) (r.2.is ∙ ap (λ (s : Poly). inst r.2.at s.body) d.3) ∙ inst_inst h r.2.at (arrow d.1 (data_ty p t n d.0))))
+      (λ n2 c2 e2. (j, refl)) hk
+  con_safe i c (con.Data n j false) env k f ei r e he hk =
+      let d = data_plain p t n j r.0 r.1 in
+      ret_con i (Tag j) k f e
+      (λ h a. (n, d.0, (λ w. inst h (r.2.at w)), d.1, ap (inst h) (r.2.is ∙ ap (λ (s : Poly). inst r.2.at s.body) d.2) ∙ inst_inst h r.2.at (data_ty p t n d.0)))
+      (λ n2 c2 e2. absurd (let x = sym ei ∙ e2 in cc)) hk
+  con_safe i c con.Ref env k f ei r e he hk =
+      let d = data_takes p t ref_number 0 r.0 r.1 in
+      let a = typing.library.param in
+      let row : (d.0 ≡ a ∷ []) × (Some d.1 ≡ Some (Variable a)) = con_same p t ref_number 0 d.0 (a ∷ []) (Some d.1) (Some (Variable a)) d.2 (library_con p t typing.library 8 0 _ _ refl refl) in
+      let arg : d.1 ≡ Variable a = (let x = row.1 in cc) in
+      let is : t.types i ≡ inst r.2.at (arrow (Variable a) (data_ty p t ref_number (a ∷ []))) = r.2.is ∙ ap (λ (s : Poly). inst r.2.at s.body) d.3 ∙ ap (λ u. inst r.2.at (arrow u (data_ty p t ref_number d.0))) arg ∙ ap (λ ps. inst r.2.at (arrow (Variable a) (data_ty p t ref_number ps))) row.0 in
+      ret_con i RefMaker k f e (λ h x. (inst h (r.2.at a), ap (inst h) is)) (λ n2 c2 e2. absurd (let x = sym ei ∙ e2 in cc)) hk
+  con_safe i c (con.Exn y takes) env k f ei r e he hk =
+      let v = he f.at (agrees_self f.gens f.at) y.0 (self_in y.0) in
+      known (look env y.0) v.0 (λ v. going m (Ret v k)) v.1
+      (ret_con i v.0 k f e (λ h a. exn_value p t typing bare.numbered bare.sorts sig m.store store h (y.0 ∷ []) env (he h a) c y.0 (t.types i) v.0 (self_in y.0) (subst (λ s. IsInstance t.names s (t.types i)) r.1.1 r.2) v.1) (λ n2 c2 e2. absurd (let x = sym ei ∙ e2 in cc)) hk)
+  con_safe i c (con.Library l) env k f ei r e he hk =
+      ret_con i (Library l) k f e (λ h a. ap (inst h) (r.2.is ∙ ap (λ (s : Poly). inst r.2.at s.body) r.1 ∙ library_closed r.2.at l) ∙ library_closed h l) (λ n2 c2 e2. absurd (let x = sym ei ∙ e2 in cc)) hk
+
+  -- a part is evaluated for one type
+  awaiting_one : (w : Awaits) (k : Option Address) (i : ℕ) (env : Env) (g : TyVar → Tree) → FrameTy p t sig w (one g (t.types i)) false k → IsExp p t i → EnvTy p t sig g (free p.nodes i) env → Safe p t m.store (awaiting m w k (Eval i env))
+  awaiting_one w k i env g hw hx hn =
+      awaiting_safe w k i env (one g (t.types i)) false hw refl hx (inl refl) (λ h a. env_same p t sig g h (free p.nodes i) env a hn) (λ e. cc)
+
+  app_frame : (i fn a : ℕ) (env : Env) (k : Option Address) (f : Family) (makers : Bool) → f.ty ≡ t.types i → t.types fn ≡ arrow (t.types a) (t.types i) → IsExp p t fn → IsExp p t a → (f.gens ≡ []) ⊎ ((makers ≡ true) × AreNonExpansive p.nodes (a ∷ [])) → IsFixed p t f.gens fn → (makers ≡ true → (n c : ℕ) × (slice_get p.nodes fn ≡ Some (node.Constructor (con.Data n c true)))) → EnvTys p t sig f (union (free p.nodes fn) (free p.nodes a)) env → Accepts p t sig k (TakesAll p t f) → Safe p t m.store (eval p m i (node.App fn a) env k)
+  app_frame i fn a env k f makers e et xf xa hg hf hm he hk =
+      let w : Family = family f.at f.gens (t.types fn) in
+      let own = union (free p.nodes fn) (free p.nodes a) in
+      awaiting_safe (FunctionPart fn a (env_of p a env)) k fn (env_of p fn env) w makers (t.types i, et, xa, envs_cut w (free p.nodes a) own env (within_right (free p.nodes fn) (free p.nodes a)) he, hg, subst (λ u. Accepts p t sig k (TakesAll p t (family f.at f.gens u))) e hk) refl xf hf (envs_cut w (free p.nodes fn) own env (within_left (free p.nodes fn) (free p.nodes a)) he) hm
+
+  exn_result : (c : Context) (q : Con) (u a b : Tree) → HasConTy p t c q u → is_exception q ≡ true → u ≡ arrow a b → b ≡ exn_ty
+  exn_result c (con.Data n j takes) u a b r h e = cc
+  exn_result c con.Ref u a b r h e = cc
+  exn_result c (con.Exn y true) u a b r h e =
+      let x = r.1.2 in let z : arrow a b ≡ arrow (inst r.2.at x.0) exn_ty = sym e ∙ r.2.is ∙ ap (inst r.2.at) x.1 in cc
+  exn_result c (con.Exn y false) u a b r h e =
+      let x = r.1.2 in let z : arrow a b ≡ exn_ty = sym e ∙ r.2.is ∙ ap (inst r.2.at) x in cc
+  exn_result c (con.Library l) u a b r h e = go (exn_con l)
+    where
+      z : arrow a b ≡ library_exn l
+      z = sym e ∙ r.2.is ∙ ap (λ (s : Poly). inst r.2.at s.body) r.1 ∙ library_closed r.2.at l
+
+      go : (library_exn l ≡ exn_ty) ⊎ (library_exn l ≡ arrow string_ty exn_ty) → b ≡ exn_ty
+      go (inl q) = let y = z ∙ q in cc
+      go (inr q) = let y = z ∙ q in cc
+
+  app_safe : (i fn a : ℕ) (env : Env) (k : Option Address) (f : Family) → slice_get p.nodes i ≡ Some (node.App fn a) → f.ty ≡ t.types i → t.types fn ≡ arrow (t.types a) (t.types i) → IsExp p t fn → IsExp p t a → IsFixed p t f.gens i → EnvTys p t sig f (union (free p.nodes fn) (free p.nodes a)) env → Accepts p t sig k (TakesAll p t f) → Safe p t m.store (eval p m i (node.App fn a) env k)
+  app_safe i fn a env k f ei e et xf xa (inl n) he hk =
+      app_frame i fn a env k f false e et xf xa (inl n) (inl n) (λ e. cc) he hk
+  app_safe i fn a env k f ei e et xf xa (inr n) he hk = let c = plain_app p.nodes i fn a ei n in go c.0 c.1 c.2 c.3
+    where
+      collapse : t.types i ≡ exn_ty → Safe p t m.store (eval p m i (node.App fn a) env k)
+      collapse h =
+          app_frame i fn a env k (one f.at (t.types i)) false refl et xf xa (inl refl) (inl refl) (λ e. cc)
+          (λ g agr. env_same p t sig f.at g (union (free p.nodes fn) (free p.nodes a)) env agr (he f.at (agrees_self f.gens f.at)))
+          (accept_map sig k (TakesAll p t f) (TakesAll p t (one f.at (t.types i))) (λ g b q. ((λ u x. let y = q.0 u x in (f.at, agrees_self [] f.at, y.2 ∙ ap (inst y.0) (e ∙ h) ∙ sym (ap (inst f.at) h))), q.1)) hk)
+
+      at_con : (c : Con) → slice_get p.nodes fn ≡ Some (node.Constructor c) → HasConTy p t (t.contexts fn) c (t.types fn)
+      at_con c ec = rule_at p t typing bare.numbered bare.sorts fn (node.Constructor c) ec
+
+      go : (c : Con) → slice_get p.nodes fn ≡ Some (node.Constructor c) → is_ref c ≡ false → AreNonExpansive p.nodes (a ∷ []) → Safe p t m.store (eval p m i (node.App fn a) env k)
+      go (con.Data n j true) ec nr na =
+          app_frame i fn a env k f true e et xf xa (inr (refl, na)) (inr (plain_atom fn (node.Constructor (con.Data n j true)) ec refl plain_none)) (λ e. (n, j, ec)) he hk
+      go (con.Data n j false) ec nr na =
+          let r = at_con (con.Data n j false) ec in
+          let d = data_plain p t n j r.0 r.1 in
+          absurd (let x : arrow (t.types a) (t.types i) ≡ inst r.2.at (data_ty p t n d.0) = sym et ∙ r.2.is ∙ ap (λ (s : Poly). inst r.2.at s.body) d.2 in cc)
+      go con.Ref ec nr na = cc
+      go (con.Exn y takes) ec nr na = collapse (exn_result (t.contexts fn) (con.Exn y takes) (t.types fn) (t.types a) (t.types i) (at_con (con.Exn y takes) ec) refl et)
+      go (con.Library l) ec nr na = collapse (exn_result (t.contexts fn) (con.Library l) (t.types fn) (t.types a) (t.types i) (at_con (con.Library l) ec) refl et)
+
+  no_rows : (labs : List Lab) (us : List Tree) → length labs ≡ 0 → length us ≡ 0 → App (FieldsHead labs) (parts us) ≡ unit_ty
+  no_rows [] [] a b = refl
+  no_rows (l ∷ labs) us a b = absurd (omega (arith, a))
+  no_rows [] (u ∷ us) a b = absurd (omega (arith, b))
+
+  eval_safe : (i : ℕ) (q : Node) (env : Env) (k : Option Address) → slice_get p.nodes i ≡ Some q → sort_of q ≡ Expression → EvalTy p t sig i env k → Safe p t m.store (eval p m i q env k)
+  eval_safe i q env k ei ex ev =
+      go q ei ex (rule_at p t typing bare.numbered bare.sorts i q ei) (sorts_at p t typing bare.numbered bare.sorts i q ei) (bare.numbered i q ei)
+    where
+      f : Family
+      f = ev.family
+
+      c : Context
+      c = t.contexts i
+
+      knows : (q : Node) → slice_get p.nodes i ≡ Some q → EnvTys p t sig ev.family (free_of (binds p.nodes) (free p.nodes) q) env
+      knows q ei h a = subst (λ xs. EnvTy p t sig h xs env) (free_unfold p.nodes bare.numbered i q ei) (ev.knows h a)
+
+      at_own : (q : Node) → slice_get p.nodes i ≡ Some q → EnvTy p t sig ev.family.at (free_of (binds p.nodes) (free p.nodes) q) env
+      at_own q ei = knows q ei ev.family.at (agrees_self ev.family.gens ev.family.at)
+
+      takes : (q : Node) → slice_get p.nodes i ≡ Some q → ((n c : ℕ) → q ≡ node.Constructor (con.Data n c true) → ⊥) → Accepts p t sig k (TakesAll p t ev.family)
+      takes q ei never = takes_plain i q k ev.family ei never ev.takes
+
+      mono_gens : (q : Node) → slice_get p.nodes i ≡ Some q → is_plain q ≡ false → ev.family.gens ≡ []
+      mono_gens q ei h = ⊎_elim (λ e. e) (λ n. absurd (expansive p.nodes i q ei h n)) ev.fixed
+
+      only_one : (q : Node) → slice_get p.nodes i ≡ Some q → is_plain q ≡ false → ((n c : ℕ) → q ≡ node.Constructor (con.Data n c true) → ⊥) → Accepts p t sig k (TakesAll p t (one ev.family.at (t.types i)))
+      only_one q ei h never = mono_takes i ev.family k ev.ty (mono_gens q ei h) (takes q ei never)
+
+      ret : (q : Node) → slice_get p.nodes i ≡ Some q → ((n c : ℕ) → q ≡ node.Constructor (con.Data n c true) → ⊥) → (v : Value) → ((h : TyVar → Tree) → Agrees ev.family.gens ev.family.at h → HasTy p t sig v (inst h (t.types i))) → Safe p t m.store (going m (Ret v k))
+      ret q ei never v hv = back i v k ev.family ev.ty hv (takes q ei never)
+
+      rules_of : (rules : List Rule) (a b : Tree) → IsMatch p t rules (t.contexts i) a b → HasRules p.nodes rules → AllByRecursion (λ c. (i < c) × (c < length p.nodes)) (flat_map rule_parts rules) → AreRules p t rules a b
+      rules_of rules a b h s n = record { context = t.contexts i; match = h; bodies = rules_exp i rules s n }
+
+      go : (q : Node) → slice_get p.nodes i ≡ Some q → sort_of q ≡ Expression → IsTypedNode p t (t.contexts i) (t.types i) (t.binds i) q → HasSorts p.nodes q → AllByRecursion (λ c. (i < c) × (c < length p.nodes)) (node_parts q) → Safe p t m.store (eval p m i q env k)
+      go (node.Int n) ei ex r s h = ret (node.Int n) ei (λ n c e. cc) (Number n) (λ g a. ap (inst g) r)
+      go (node.Char n) ei ex r s h = ret (node.Char n) ei (λ n c e. cc) (Letter n) (λ g a. ap (inst g) r)
+      go (node.Text n) ei ex r s h =
+          ret (node.Text n) ei (λ n c e. cc) (Constant n) (λ g a. (ap (inst g) r, stands_at i (node.Text n) ei))
+      go (node.Var x) ei ex r s h =
+          let v = at_own (node.Var x) ei x.0 (self_in x.0) in
+          let w = inst_weak (is_in c.own x.0) (t.schemes x.0) (t.types i) r.1 in
+          known (look env x.0) v.0 (λ v. going m (Ret v k)) v.1
+          (ret (node.Var x) ei (λ n c e. cc) v.0 (λ g a.
+          let u = knows (node.Var x) ei g a x.0 (self_in x.0) in
+          let same : u.0 ≡ v.0 = (let y : Some u.0 ≡ Some v.0 = sym u.1 ∙ v.1 in cc) in
+          subst (HasTy p t sig v.0) (sym (ap (inst g) w.2 ∙ inst_inst g w.0 (t.schemes x.0).body)) (subst (HasScheme p t sig g x.0) same u.2 (λ y. inst g (w.0 y)) (λ y n. ap (inst g) (w.1 y n)))))
+      go (node.Constructor b) ei ex r s h = con_safe i c b env k f ei r ev.ty (knows (node.Constructor b) ei) ev.takes
+      go (node.Builtin b) ei ex r s h =
+          ret (node.Builtin b) ei (λ n c e. cc) (Builtin b) (λ g a. ((λ y. inst g (r.at y)), ap (inst g) r.is ∙ inst_inst g r.at (primitive_poly b).body))
+      go (node.Record []) ei ex r s h =
+          ret (node.Record []) ei (λ n c e. cc) Nothing (λ g a. ap (inst g) (r.1.is ∙ no_rows r.1.labs r.1.types r.1.labs_count r.1.types_count))
+      go (node.Record (x ∷ fields)) ei ex r s h =
+          eval_fields_safe (x ∷ fields) (x ∷ fields) [] env k f (subst (IsRecord (fields_of p t (x ∷ fields))) (sym ev.ty) r.1, (stands_at i (node.Record (x ∷ fields)) ei).distinct) (fields_exp i (x ∷ fields) s h) (⊎_elim (λ e. inl e) (λ n. inr (plain_fields p.nodes i (x ∷ fields) ei n)) ev.fixed) (λ g a. refl) (knows (node.Record (x ∷ fields)) ei) (takes (node.Record (x ∷ fields)) ei (λ n c e. cc))
+      go (node.App fn a) ei ex r s h =
+          app_safe i fn a env k f ei ev.ty (r.1.1 ∙ ap (λ u. arrow u (t.types i)) (sym r.2.1)) (exp_of fn h.0.1 s.0) (exp_of a h.1.0.1 s.1) ev.fixed (knows (node.App fn a) ei) (takes (node.App fn a) ei (λ n c e. cc))
+      go (node.Case e rules) ei ex r s h =
+          let q = node.Case e rules in
+          let own = union (free p.nodes e) (free_of_match p t rules) in
+          awaiting_one (Subject e rules (env_of_match p rules env)) k e (env_of p e env) f.at (refl, refl, t.types i, rules_of rules (t.types e) (t.types i) (subst (λ u. IsMatch p t rules c u (t.types i)) (sym r.1.1) r.2) s.1 h.1, env_cut p t sig f.at (free_of_match p t rules) own env (within_right (free p.nodes e) (free_of_match p t rules)) (at_own q ei), only_one q ei refl (λ n c e. cc)) (exp_of e h.0.1 s.0) (env_cut p t sig f.at (free p.nodes e) own env (within_left (free p.nodes e) (free_of_match p t rules)) (at_own q ei))
+      go (node.Fn rules) ei ex r s h = made_safe (Closure i rules env) f k (ei, ev.ty, ev.knows) tt (takes (node.Fn rules) ei (λ n c e. cc))
+      go (node.Raise e) ei ex r s h =
+          let q = node.Raise e in
+          awaiting_one (RaisePart e) k e (env_of p e env) f.at (refl, r.1, any_takes k f (takes q ei (λ n c e. cc))) (exp_of e h.0.1 s) (env_cut p t sig f.at (free p.nodes e) (free p.nodes e) env (λ z m. m) (at_own q ei))
+      go (node.Handle e rules) ei ex r s h =
+          let q = node.Handle e rules in
+          let own = union (free p.nodes e) (free_of_match p t rules) in
+          awaiting_one (Guarded i rules (env_of_match p rules env)) k e (env_of p e env) f.at (refl, refl, rules_of rules exn_ty (t.types e) (subst (IsMatch p t rules c exn_ty) (sym r.0.1) r.1) s.1 h.1, env_cut p t sig f.at (free_of_match p t rules) own env (within_right (free p.nodes e) (free_of_match p t rules)) (at_own q ei), subst (λ u. Accepts p t sig k (TakesAll p t (one f.at u))) (sym r.0.1) (only_one q ei refl (λ n c e. cc))) (exp_of e h.0.1 s.0) (env_cut p t sig f.at (free p.nodes e) own env (within_left (free p.nodes e) (free_of_match p t rules)) (at_own q ei))
+      go (node.Typed e j) ei ex r s h =
+          going_safe (Eval e env k)
+          (record { family = f; exp = exp_of e h.0.1 s; ty = ev.ty ∙ sym r.0.1; fixed = ⊎_elim (λ n. inl n) (λ n. inr (plain_under p.nodes i e j ei n)) ev.fixed; knows = knows (node.Typed e j) ei; takes = accept_map sig k (TakesAll p t f) (TakesNode p t e f) (λ g b h. (h.0, (λ e. let x = h.1 in cc))) (takes (node.Typed e j) ei (λ n c e. cc)) })
+      go (node.Let d body) ei ex r s h =
+          let q = node.Let d body in
+          let n = get_below p.nodes d h.0.1 in
+          let env_is = subst (λ xs. EnvTy p t sig f.at (union xs (without (free p.nodes body) (binds p.nodes d))) env) (free_unfold p.nodes bare.numbered d n.0 n.1) (at_own q ei) in
+          known (slice_get p.nodes d) n.0 (λ dec. eval_dec p m body dec env k) n.1
+          (eval_dec_safe d body n.0 env k f.at n.1 (s.0 n.0 n.1) (rule_at p t typing bare.numbered bare.sorts d n.0 n.1) (exp_of body h.1.0.1 s.1) (subst (λ xs. EnvTy p t sig f.at (union (free_of (binds p.nodes) (free p.nodes) n.0) (without (free p.nodes body) xs)) env) (binds_unfold p.nodes bare.numbered d n.0 n.1) env_is) (subst (λ u. Accepts p t sig k (TakesAll p t (one f.at u))) (sym r.1.1) (only_one q ei refl (λ n c e. cc))))
+      go node.Finish ei ex r s h = ret node.Finish ei (λ n c e. cc) Nothing (λ g a. ap (inst g) r)
+      go _ ei ex r s h = cc
+
+  -- ---- Ret
+
+  before_more : (g : TyVar → Tree) (vs : List Value) (all : List Field) (f : Field) (later : List Field) (v : Value) → BeforeTy p t sig g vs all (f ∷ later) → HasTy p t sig v (inst g (t.types f.node)) → BeforeTy p t sig g (vs ++ v ∷ []) all later
+  before_more g [] [] f later v h k = cc
+  before_more g [] (x ∷ all) f later v h k =
+      let e : f ≡ x = cc in
+      let d : all ≡ later = cc in (subst (λ y. HasTy p t sig v (inst g (t.types y.node))) e k, d)
+  before_more g (w ∷ vs) [] f later v h k = absurd h
+  before_more g (w ∷ vs) (x ∷ all) f later v h k = (h.0, before_more g vs all f later v h.1 k)
+
+  raises : (e : LibraryExn) (k : Option Address) → library_exn e ≡ exn_ty → Accepts p t sig k (TakesAny p t) → ControlTy p t sig (raising e k)
+  raises e k h hk = (sym h, hk)
+
+  bind_safe : (b : Binding) (later : List Binding) (body : ℕ) (env : Env) (v : Value) (k : Option Address) (g : TyVar → Tree) → AreBindings p t (b ∷ later) → IsExp p t body → ((h : TyVar → Tree) → Agrees (t.gens b.right) g h → HasTy p t sig v (inst h (t.types b.right))) → EnvTy p t sig g (free_of_rest p t b later body) env → Accepts p t sig k (TakesAll p t (one g (t.types body))) → Safe p t m.store (bind p m b later body env v k)
+  bind_safe b later body env v k g r hx hv he hk =
+      or_some (Safe p t m.store) (fits p env m.store b.pat v) _ _ (λ bound eb. declare_safe later body (bound ++ env) k g r.context r.tyvars r.bind.1 r.rights.1 r.pats.1 hx (bound_env (t.gens b.right) g b.pat v bound env (free_of_rest p t b later body) (needed later body) eb (λ h a. (subst (λ u. HasTy p t sig v (inst h u)) r.bind.0.1.1 (hv h a), pattern_env h a)) r.bind.0.3 he wide) hk)
+      (going_safe (raising exn.BindExn k) (raises exn.BindExn k refl (any_takes k (one g (t.types body)) hk)))
+    where
+      pats : List ℕ
+      pats = union_over (λ b. free p.nodes b.pat) (b ∷ later)
+
+      rights : List ℕ
+      rights = union_over (λ b. free p.nodes b.right) later
+
+      rest : List ℕ
+      rest = without (free p.nodes body) (union_over (λ b. binds p.nodes b.pat) (b ∷ later))
+
+      pattern_env : (h : TyVar → Tree) → Agrees (t.gens b.right) g h → EnvTy p t sig h (free p.nodes b.pat) env
+      pattern_env h a =
+          env_spread p t sig r.context (t.gens b.right) g h (free p.nodes b.pat) env a (all_fresh r.context (t.gens b.right) r.bind.0.2.0) (subst (λ (d : Context). IsWithin (free p.nodes b.pat) d.names) r.bind.0.0 (free_known p t typing bare.numbered bare.sorts b.pat r.pats.0))
+          (env_within p t sig g (free p.nodes b.pat) (free_of_rest p t b later body) env (λ z q. within_left pats (union rights rest) z (within_head (λ (b : Binding). free p.nodes b.pat) b later z q)) he)
+
+      wide : (z : ℕ) → has (needed later body) z ≡ true → has (binds p.nodes b.pat) z ≡ false → has (free_of_rest p t b later body) z ≡ true
+      wide z q n =
+          let before = union_over (λ b. free p.nodes b.pat) later in
+          let after = without (free p.nodes body) (union_over (λ b. binds p.nodes b.pat) later) in
+          let goal = has (free_of_rest p t b later body) z ≡ true in
+          either (has before z) (has (union rights after) z) goal (sym (has-union before (union rights after) z) ∙ q) (λ a. within_left pats (union rights rest) z (within_tail (λ (b : Binding). free p.nodes b.pat) b later z a))
+          (λ a. either (has rights z) (has after z) goal (sym (has-union rights after z) ∙ a) (λ a. within_right pats (union rights rest) z (within_left rights rest z a))
+          (λ a. let w = without_parts (free p.nodes body) (union_over (λ b. binds p.nodes b.pat) later) z a in
+          within_right pats (union rights rest) z (within_right rights rest z (within_rest (free p.nodes body) (union_over (λ b. binds p.nodes b.pat) (b ∷ later)) z w.0 (has-union (binds p.nodes b.pat) (union_over (λ b. binds p.nodes b.pat) later) z ∙ ap (λ x. x || has (union_over (λ b. binds p.nodes b.pat) later) z) n ∙ w.1)))))
+
+  resume_safe : (w : Awaits) (v : Value) (f : Family) (b : Bool) (k : Option Address) → FrameTy p t sig w f b k → Fits p t sig v f b → Safe p t m.store (resume p m w v k)
+  resume_safe (FunctionPart i a env) v f b k h hv =
+      awaiting_safe (ArgumentPart a v) k a env (family f.at f.gens (t.types a)) false (refl, h.0, (λ g x. subst (HasTy p t sig v) (ap (inst g) h.1) (hv.0 (inst g f.ty) (g, x, refl))), ⊎_elim (λ e. inl e) (λ n. inr (hv.1 n.0)) h.4, h.5) refl h.2 (⊎_elim (λ e. inl e) (λ n. inr n.1) h.4) h.3 (λ e. cc)
+  resume_safe (ArgumentPart i x) v f b k h hv =
+      going_safe (Apply x v k)
+      (record { family = family f.at f.gens h.1; arg = f.ty; function = h.2; argument = (λ g a. hv.0 (inst g f.ty) (g, a, refl)); fixed = h.3; takes = h.4 })
+  resume_safe (FieldPart i fields before later env) v f b k h hv =
+      eval_fields_safe fields later (before ++ v ∷ []) env k (family f.at f.gens h.2) h.4 h.5 h.6 (λ g a. before_more g before fields h.1 later v (h.7 g a) (subst (λ u. HasTy p t sig v (inst g u)) h.3 (hv.0 (inst g f.ty) (g, a, refl)))) h.8 h.9
+  resume_safe (Subject i rules env) v f b k h hv =
+      rule_safe rules env v k (raising exn.MatchExn k) f.at f.ty h.2 h.3 h.4 (hv.0 (inst f.at f.ty) (at_in f)) h.5 (raises exn.MatchExn k refl (any_takes k (one f.at h.2) h.5))
+  resume_safe (RightSide c later body env) v f b k h hv =
+      bind_safe c later body env v k f.at h.3 h.4 (λ g a. subst (λ u. HasTy p t sig v (inst g u)) h.2 (hv.0 (inst g f.ty) (g, subst (λ vs. Agrees vs f.at g) (sym h.1) a, refl))) h.5 h.6
+  resume_safe (RaisePart i) v f b k h hv =
+      going_safe (Raise v k) (subst (λ u. HasTy p t sig v (inst f.at u)) h.1 (hv.0 (inst f.at f.ty) (at_in f)), h.2)
+  resume_safe (Guarded i rules env) v f b k h hv =
+      going_safe (Ret v k) (accept_map sig k (TakesAll p t f) (Fits p t sig v) (λ g b q. ((λ u x. hv.0 u (q.0 u x)), (λ e. let x = q.1 in cc))) h.4)
+
+  ret_safe : (c : Block) (v : Value) (f : Family) (b : Bool) → BlockTy p t sig c (Takes f b) → Fits p t sig v f b → Safe p t m.store (ret p m (Some c) v)
+  ret_safe (Frame w next) v f b h hv = resume_safe w v f b next h hv
+  ret_safe _ v f b h hv = absurd h
+
+  -- ---- Raise
+
+  frame_next : (w : Awaits) (f : Family) (b : Bool) (k : Option Address) → FrameTy p t sig w f b k → Accepts p t sig k (TakesAny p t)
+  frame_next (FunctionPart i a env) f b k h = any_takes k (family f.at f.gens h.0) h.5
+  frame_next (ArgumentPart i x) f b k h = any_takes k (family f.at f.gens h.1) h.4
+  frame_next (FieldPart i fields before later env) f b k h = any_takes k (family f.at f.gens h.2) h.9
+  frame_next (Subject i rules env) f b k h = any_takes k (one f.at h.2) h.5
+  frame_next (RightSide c later body env) f b k h = any_takes k (one f.at (t.types body)) h.6
+  frame_next (RaisePart i) f b k h = h.2
+  frame_next (Guarded i rules env) f b k h = any_takes k f h.4
+
+  raised_to_safe : (w : Awaits) (x : Value) (f : Family) (b : Bool) (k : Option Address) → FrameTy p t sig w f b k → HasTy p t sig x exn_ty → Safe p t m.store (raised_to p m w k x)
+  raised_to_safe (Guarded i rules env) x f b k h hx =
+      rule_safe rules env x k (Raise x k) f.at exn_ty f.ty h.2 h.3 hx (accept_map sig k (TakesAll p t f) (TakesAll p t (one f.at f.ty)) (λ g b q. ((λ u y. (f.at, agrees_self [] f.at, single f u h.1 (q.0 u y))), q.1)) h.4) (hx, any_takes k f h.4)
+  raised_to_safe (FunctionPart i a env) x f b k h hx = going_safe (Raise x k) (hx, frame_next (FunctionPart i a env) f b k h)
+  raised_to_safe (ArgumentPart i y) x f b k h hx = going_safe (Raise x k) (hx, frame_next (ArgumentPart i y) f b k h)
+  raised_to_safe (FieldPart i fields before later env) x f b k h hx =
+      going_safe (Raise x k) (hx, frame_next (FieldPart i fields before later env) f b k h)
+  raised_to_safe (Subject i rules env) x f b k h hx = going_safe (Raise x k) (hx, frame_next (Subject i rules env) f b k h)
+  raised_to_safe (RightSide c later body env) x f b k h hx =
+      going_safe (Raise x k) (hx, frame_next (RightSide c later body env) f b k h)
+  raised_to_safe (RaisePart i) x f b k h hx = going_safe (Raise x k) (hx, frame_next (RaisePart i) f b k h)
+
+  raised_safe : (c : Block) (x : Value) (f : Family) (b : Bool) → BlockTy p t sig c (Takes f b) → HasTy p t sig x exn_ty → Safe p t m.store (raised p m (Some c) x)
+  raised_safe (Frame w next) x f b h hx = raised_to_safe w x f b next h hx
+  raised_safe _ x f b h hx = absurd h
