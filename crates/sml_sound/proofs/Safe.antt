@@ -1,4 +1,25 @@
 -- A step of a typed state goes to a typed state.
+use Rattle.sml_sound.proofs.Values.{a_list}
+use Rattle.sml_def.specs.Builtin.{assign}
+use Rattle.std.specs.Prelude.{set}
+use Rattle.simulation.specs.Stores.{replaced, Put}
+use Rattle.sml_sound.specs.TypedStates.{InFamily}
+use Rattle.sml_def.specs.Match.{applied_block, tuple_block}
+use Rattle.simulation.proofs.Lists.{get_last}
+use Rattle.sml_types.proofs.TreeFacts.{inst_id}
+use Rattle.sml_sound.proofs.Values.{an_int, a_char, a_string, an_exn, a_stream, a_record, a_ref}
+use Rattle.sml_sound.proofs.Grow.{store_get, compared_up, store_set}
+use Rattle.sml_sound.proofs.Families.{only}
+use Rattle.sml_sound.specs.TypedStates.{Compares, AreCompared, IsApplied, IsTuple, IsName, EntryTy}
+use Rattle.sml_types.specs.Library.{bool_ty, list_ty, option_ty, order_ty, instream_ty, labels_from}
+use Rattle.sml_def.specs.Memory.{writing, assigning}
+use Rattle.sml_def.specs.State.{Applied, Text, Cell, Packet, Pending, Eq, End, Normal, Uncaught, truth, Ending}
+use Rattle.sml_def.specs.Step.{apply, apply_block, uncaught, compare, step, exn_name, name_of}
+use Rattle.sml_def.specs.Match.{bytes_of, fields_of as tuple_of, block_of, cell_block}
+use Rattle.sml_def.specs.Builtin.{int_result, divided, is_int, floor_div, floor_mod, on_two, on_three, on_fields, builtin, start_compare, is_deep, order_of, letters, sub_result, part_of, text_result, read_line, decided, compare_values, Verdict, Equal, Unequal, AsPairs, by_verdict, pend, behind_line, line_of, pair_of, letter_of}
+use Rattle.smlc_base.specs.declared.primitive.Primitive.TheVariants as prim
+use Rattle.smlc_base.specs.declared.primitive.Primitive.{Primitive}
+use Rattle.std.specs.Prelude.{ℤ, pos, negsuc, ◌+ℤ◌, ◌-ℤ◌, ◌*ℤ◌, neg_ℤ, unsigned_abs, int_lt, int_le, if◌then◌else◌, nat_lt, nat_eq, take, drop, not}
 use Rattle.sml_tree.specs.BareParts.{node_parts}
 use Rattle.sml_tree.specs.declared.bare.Lab.{Lab}
 use Rattle.sml_types.specs.Library.{parts}
@@ -96,6 +117,18 @@ descend_append a [] ys h k = let e : a + 0 ≡ a = omega arith in subst (λ n. A
 descend_append a (x ∷ xs) ys h k =
     let e : a + suc (length xs) ≡ suc a + length xs = omega arith in
     (h.0, descend_append (suc a) xs ys h.1 (subst (λ n. AllDescend n ys) e k))
+
+pub descend_set : (a : ℕ) (xs : List Block) (i : ℕ) (v : Value) → AllDescend a xs → AllDescend a (set xs i (Cell v))
+descend_set a [] i v h = h
+descend_set a (x ∷ xs) zero v h = (tt, h.1)
+descend_set a (x ∷ xs) (suc i) v h = (h.0, descend_set (suc a) xs i v h.1)
+
+pub descend_get : (a : ℕ) (xs : List Block) (i : ℕ) (b : Block) → AllDescend a xs → slice_get xs i ≡ Some b → Descends (a + i) b
+descend_get a [] i b h e = cc
+descend_get a (x ∷ xs) zero b h e =
+    let same : x ≡ b = cc in let n : a ≡ a + 0 = omega arith in subst (λ n. Descends n b) n (subst (Descends a) same h.0)
+descend_get a (x ∷ xs) (suc i) b h e =
+    let n : suc a + i ≡ a + suc i = omega arith in subst (λ n. Descends n b) n (descend_get (suc a) xs i b h.1 e)
 
 -- what a step does to a typed store, and goes on with
 pub record IsSafeAct (p : Bare) (t : Typing) (blocks : List Block) (a : Act Focus Block) : Type 0 where
@@ -815,3 +848,610 @@ module _ (p : Bare) (t : Typing) (typing : IsTyping p t) (bare : IsBare p) (cove
   raised_safe : (c : Block) (x : Value) (f : Family) (b : Bool) → BlockTy p t sig c (Takes f b) → HasTy p t sig x exn_ty → Safe p t m.store (raised p m (Some c) x)
   raised_safe (Frame w next) x f b h hx = raised_to_safe w x f b next h hx
   raised_safe _ x f b h hx = absurd h
+
+  uncaught_safe : (x : Value) → HasTy p t sig x exn_ty → Safe p t m.store (uncaught p m x)
+  uncaught_safe x h =
+      let n = an_exn p t typing sig m.store store x h in
+      known (exn_name p m.store (name_of p m.store x)) n.0 (λ name. going m (End (Uncaught name))) n.1 (going_safe (End (Uncaught n.0)) tt)
+
+  -- ---- What takes one type
+
+  abbrev Takes1 : Option Address → Tree → Type 0
+  Takes1 k u = Accepts p t sig k (λ f b. ((v : Tree) → InFamily f v → v ≡ u) × (b ≡ false))
+
+  ret_one : (v : Value) (k : Option Address) (u : Tree) → HasTy p t sig v u → Takes1 k u → ControlTy p t sig (Ret v k)
+  ret_one v k u h hk =
+      accept_map sig k (λ f b. ((v : Tree) → InFamily f v → v ≡ u) × (b ≡ false)) (Fits p t sig v) (λ f b q. ((λ w i. subst (HasTy p t sig v) (sym (q.0 w i)) h), (λ e. let x = q.1 in cc))) hk
+
+  raise_one : (e : LibraryExn) (k : Option Address) (u : Tree) → library_exn e ≡ exn_ty → Takes1 k u → ControlTy p t sig (raising e k)
+  raise_one e k u h hk =
+      raises e k h (accept_map sig k (λ f b. ((v : Tree) → InFamily f v → v ≡ u) × (b ≡ false)) (TakesAny p t) (λ f b q. tt) hk)
+
+  takes_one : (k : Option Address) (u : Tree) → Takes1 k u → Accepts p t sig k (TakesAll p t (one Variable u))
+  takes_one k u hk =
+      accept_map sig k (λ f b. ((v : Tree) → InFamily f v → v ≡ u) × (b ≡ false)) (TakesAll p t (one Variable u)) (λ f b q. ((λ w i. (Variable, agrees_self [] Variable, q.0 w i ∙ sym (inst_id u))), q.1)) hk
+
+  is_one : (u v : Tree) → InFamily (one Variable u) v → v ≡ u
+  is_one u v i = only Variable u v i ∙ inst_id u
+
+  made_one : (b : Block) (k : Option Address) (u : Tree) → BlockTy p t sig b (Holds (one Variable u)) → Descends (length m.store) b → Takes1 k u → Safe p t m.store (making m b (λ a. Ret (At a) k))
+  made_one b k u hb d hk = made_safe b (one Variable u) k hb d (takes_one k u hk)
+
+  -- ---- Primitives
+
+  true_false : (q : Bool) → HasTy p t sig (truth q) bool_ty
+  true_false true = (4, [], Variable, library_con p t typing.library 4 1 _ _ refl refl, refl)
+  true_false false = (4, [], Variable, library_con p t typing.library 4 0 _ _ refl refl, refl)
+
+  ordered : (xs ys : List ℕ) → HasTy p t sig (Tag (order_of xs ys)) order_ty
+  ordered [] [] = (7, [], Variable, library_con p t typing.library 7 1 _ _ refl refl, refl)
+  ordered [] (y ∷ ys) = (7, [], Variable, library_con p t typing.library 7 0 _ _ refl refl, refl)
+  ordered (x ∷ xs) [] = (7, [], Variable, library_con p t typing.library 7 2 _ _ refl refl, refl)
+  ordered (x ∷ xs) (y ∷ ys) = go (nat_lt x y) (nat_eq x y) (ordered xs ys)
+    where
+      go : (a b : Bool) → HasTy p t sig (Tag (order_of xs ys)) order_ty → HasTy p t sig (Tag (if a then 0 else if b then order_of xs ys else 2)) order_ty
+      go true b h = (7, [], Variable, library_con p t typing.library 7 0 _ _ refl refl, refl)
+      go false true h = h
+      go false false h = (7, [], Variable, library_con p t typing.library 7 2 _ _ refl refl, refl)
+
+  a_pair : (a b : Tree) (v : Value) → HasTy p t sig v (tuple (a ∷ b ∷ [])) → (x : Value) × (y : Value) × (tuple_of m.store v ≡ Some (x ∷ y ∷ [])) × HasTy p t sig x a × HasTy p t sig y b
+  a_pair a b v h =
+      let r = a_record p t typing sig m.store store (labels_from 0 (a ∷ b ∷ [])) (a ∷ b ∷ []) v h in
+      go r.0 r.1 r.2
+    where
+      go : (vs : List Value) → tuple_of m.store v ≡ Some vs → HaveTys p t sig vs (a ∷ b ∷ []) → (x : Value) × (y : Value) × (tuple_of m.store v ≡ Some (x ∷ y ∷ [])) × HasTy p t sig x a × HasTy p t sig y b
+      go [] e g = absurd g
+      go (x ∷ []) e g = absurd g.1
+      go (x ∷ y ∷ []) e g = (x, y, e, g.0, g.1.0)
+      go (x ∷ y ∷ z ∷ vs) e g = absurd g.1.1
+
+  a_triple : (a b c : Tree) (v : Value) → HasTy p t sig v (tuple (a ∷ b ∷ c ∷ [])) → (x : Value) × (y : Value) × (z : Value) × (tuple_of m.store v ≡ Some (x ∷ y ∷ z ∷ [])) × HasTy p t sig x a × HasTy p t sig y b × HasTy p t sig z c
+  a_triple a b c v h =
+      let r = a_record p t typing sig m.store store (labels_from 0 (a ∷ b ∷ c ∷ [])) (a ∷ b ∷ c ∷ []) v h in
+      go r.0 r.1 r.2
+    where
+      go : (vs : List Value) → tuple_of m.store v ≡ Some vs → HaveTys p t sig vs (a ∷ b ∷ c ∷ []) → (x : Value) × (y : Value) × (z : Value) × (tuple_of m.store v ≡ Some (x ∷ y ∷ z ∷ [])) × HasTy p t sig x a × HasTy p t sig y b × HasTy p t sig z c
+      go [] e g = absurd g
+      go (x ∷ []) e g = absurd g.1
+      go (x ∷ y ∷ []) e g = absurd g.1.1
+      go (x ∷ y ∷ z ∷ []) e g = (x, y, z, e, g.0, g.1.0, g.1.1.0)
+      go (x ∷ y ∷ z ∷ w ∷ vs) e g = absurd g.1.1.1
+
+  int_safe : (z : ℤ) (k : Option Address) → Takes1 k int_ty → ControlTy p t sig (int_result z k)
+  int_safe z k hk = go (is_int z)
+    where
+      go : (q : Bool) → ControlTy p t sig (if q then Ret (Number z) k else raising exn.OverflowExn k)
+      go true = ret_one (Number z) k int_ty refl hk
+      go false = raise_one exn.OverflowExn k int_ty refl hk
+
+  divided_safe : (f : ℤ → ℤ → ℤ) (x y : ℤ) (k : Option Address) → Takes1 k int_ty → ControlTy p t sig (divided f x y k)
+  divided_safe f x (pos zero) k hk = raise_one exn.DivExn k int_ty refl hk
+  divided_safe f x (pos (suc n)) k hk = int_safe (f x (pos (suc n))) k hk
+  divided_safe f x (negsuc n) k hk = int_safe (f x (negsuc n)) k hk
+
+  on_two_ints : (f : Primitive) (v : Value) (k : Option Address) (g : ℤ → ℤ → Control) → ((x y : ℤ) → on_two p m k f (Number x) (Number y) ≡ going m (g x y)) → ((x y : ℤ) → ControlTy p t sig (g x y)) → HasTy p t sig v (tuple (int_ty ∷ int_ty ∷ [])) → Safe p t m.store (tuple_of m.store v >>= on_fields p m k f)
+  on_two_ints f v k g e h hv =
+      let r = a_pair int_ty int_ty v hv in
+      let x = an_int p t typing sig m.store store r.0 r.3 in
+      let y = an_int p t typing sig m.store store r.1 r.4 in
+      known (tuple_of m.store v) (r.0 ∷ r.1 ∷ []) (on_fields p m k f) r.2
+      (subst (Safe p t m.store) (sym (ap (λ a. on_two p m k f a r.1) x.1 ∙ ap (λ b. on_two p m k f (Number x.0) b) y.1 ∙ e x.0 y.0)) (going_safe (g x.0 y.0) (h x.0 y.0)))
+
+  text_safe : (bytes : List ℕ) (k : Option Address) → Takes1 k string_ty → Safe p t m.store (text_result p m k bytes)
+  text_safe bytes k hk = made_one (Text bytes) k string_ty (λ u i. is_one string_ty u i) tt hk
+
+  compare_safe : (v w : Value) (q : Bool) (k : Option Address) → Takes1 k bool_ty → Safe p t m.store (start_compare p m v w q k)
+  compare_safe v w q k hk = go (is_deep (block_of m.store v) (block_of m.store w))
+    where
+      go : (d : Bool) → Safe p t m.store (cond d (making m (Pending v w None) (λ a. Eq (Some a) q k)) (going m (Ret (truth (decided (compare_values p m.store v w) q)) k)))
+      go true =
+          making_safe (Pending v w None) Compares (λ a. Eq (Some a) q k) tt tt (new_at Compares, accepts_up p t sig (Compares ∷ []) k (TakesAll p t (one Variable bool_ty)) (takes_one k bool_ty hk))
+      go false =
+          let x = decided (compare_values p m.store v w) q in
+          going_safe (Ret (truth x) k) (ret_one (truth x) k bool_ty (true_false x) hk)
+
+  if_safe : (q : Bool) (c d : Control) → ControlTy p t sig c → ControlTy p t sig d → ControlTy p t sig (if q then c else d)
+  if_safe true c d h g = h
+  if_safe false c d h g = g
+
+  sub_safe : (o : Option ℕ) (k : Option Address) → Takes1 k char_ty → Safe p t m.store (sub_result p m k o)
+  sub_safe (Some c) k hk = going_safe (Ret (Letter c) k) (ret_one (Letter c) k char_ty refl hk)
+  sub_safe None k hk = going_safe (raising exn.SubscriptExn k) (raise_one exn.SubscriptExn k char_ty refl hk)
+
+  part_safe : (bytes : List ℕ) (i n : ℕ) (k : Option Address) → Takes1 k string_ty → Safe p t m.store (part_of p m k bytes i n)
+  part_safe bytes i n k hk = go (nat_lt (length bytes) (i + n))
+    where
+      go : (q : Bool) → Safe p t m.store (cond q (going m (raising exn.SubscriptExn k)) (text_result p m k (take n (drop i bytes))))
+      go true = going_safe (raising exn.SubscriptExn k) (raise_one exn.SubscriptExn k string_ty refl hk)
+      go false = text_safe (take n (drop i bytes)) k hk
+
+  at_place : (v : Value) (bytes : List ℕ) → bytes_of p m.store v ≡ Some bytes → (z : ℤ) (k : Option Address) → Takes1 k char_ty → Safe p t m.store (on_two p m k prim.Sub v (Number z))
+  at_place v bytes e (pos n) k hk =
+      known (bytes_of p m.store v) bytes (λ bytes. sub_result p m k (slice_get bytes n)) e (sub_safe (slice_get bytes n) k hk)
+  at_place v bytes e (negsuc n) k hk = going_safe (raising exn.SubscriptExn k) (raise_one exn.SubscriptExn k char_ty refl hk)
+
+  at_places : (v : Value) (bytes : List ℕ) → bytes_of p m.store v ≡ Some bytes → (y z : ℤ) (k : Option Address) → Takes1 k string_ty → Safe p t m.store (on_three p m k prim.Substring v (Number y) (Number z))
+  at_places v bytes e (pos i) (pos n) k hk =
+      known (bytes_of p m.store v) bytes (λ bytes. part_of p m k bytes i n) e (part_safe bytes i n k hk)
+  at_places v bytes e (pos i) (negsuc n) k hk = going_safe (raising exn.SubscriptExn k) (raise_one exn.SubscriptExn k string_ty refl hk)
+  at_places v bytes e (negsuc i) (pos n) k hk = going_safe (raising exn.SubscriptExn k) (raise_one exn.SubscriptExn k string_ty refl hk)
+  at_places v bytes e (negsuc i) (negsuc n) k hk = going_safe (raising exn.SubscriptExn k) (raise_one exn.SubscriptExn k string_ty refl hk)
+
+  a_letter_of : (z : ℤ) (k : Option Address) → Takes1 k char_ty → Safe p t m.store (builtin p m k prim.Chr (Number z))
+  a_letter_of (pos n) k hk =
+      going_safe (if nat_lt n 256 then Ret (Letter n) k else raising exn.ChrExn k) (if_safe (nat_lt n 256) (Ret (Letter n) k) (raising exn.ChrExn k) (ret_one (Letter n) k char_ty refl hk) (raise_one exn.ChrExn k char_ty refl hk))
+  a_letter_of (negsuc n) k hk = going_safe (raising exn.ChrExn k) (raise_one exn.ChrExn k char_ty refl hk)
+
+  ret_full : (full : List Entry) (v : Value) (k : Option Address) (u : Tree) → HasTy p t full v u → Accepts p t full k (λ f b. ((w : Tree) → InFamily f w → w ≡ u) × (b ≡ false)) → ControlTy p t full (Ret v k)
+  ret_full full v k u h hk =
+      accept_map full k (λ f b. ((w : Tree) → InFamily f w → w ≡ u) × (b ≡ false)) (Fits p t full v) (λ f b q. ((λ w i. subst (HasTy p t full v) (sym (q.0 w i)) h), (λ e. let x = q.1 in cc))) hk
+
+  -- a line of the input
+  line_safe : (input : List ℕ) (k : Option Address) → Takes1 k (option_ty string_ty) → Safe p t m.store (read_line p m k input)
+  line_safe [] k hk =
+      going_safe (Ret (Tag 0) k) (ret_one (Tag 0) k (option_ty string_ty) (6, typing.library.param ∷ [], (λ v. string_ty), library_con p t typing.library 6 0 _ _ refl refl, refl) hk)
+  line_safe (c ∷ cs) k hk = record {
+    after = m.store ++ Text (line_of (c ∷ cs)) ∷ Applied 1 (At (length m.store)) ∷ [];
+    done = refl;
+    sig = sig ++ Holds (one Variable string_ty) ∷ Holds (one Variable (option_ty string_ty)) ∷ [];
+    store = store_append p t (sig ++ Holds (one Variable string_ty) ∷ Holds (one Variable (option_ty string_ty)) ∷ []) sig (Holds (one Variable string_ty) ∷ Holds (one Variable (option_ty string_ty)) ∷ []) m.store (Text (line_of (c ∷ cs)) ∷ Applied 1 (At (length m.store)) ∷ []) (store_up p t sig (Holds (one Variable string_ty) ∷ Holds (one Variable (option_ty string_ty)) ∷ []) sig m.store store) ((λ u i. is_one string_ty u i), ((λ u i. (record { name = 6; params = typing.library.param ∷ []; arg = Variable typing.library.param }, (λ v. string_ty), making, is_one (option_ty string_ty) u i, at_string)), tt));
+    descend = descend_append 0 m.store (Text (line_of (c ∷ cs)) ∷ Applied 1 (At (length m.store)) ∷ []) descend (tt, ((omega arith), tt));
+    control = ret_full (sig ++ Holds (one Variable string_ty) ∷ Holds (one Variable (option_ty string_ty)) ∷ []) (At (suc (length m.store))) k (option_ty string_ty) (Holds (one Variable (option_ty string_ty)), at_second, (Variable, agrees_self [] Variable, refl)) (accepts_up p t sig (Holds (one Variable string_ty) ∷ Holds (one Variable (option_ty string_ty)) ∷ []) k (λ f b. ((w : Tree) → InFamily f w → w ≡ option_ty string_ty) × (b ≡ false)) hk);
+  }
+    where
+      at_string : HasTy p t (sig ++ Holds (one Variable string_ty) ∷ Holds (one Variable (option_ty string_ty)) ∷ []) (At (length m.store)) string_ty
+      at_string = (
+        Holds (one Variable string_ty),
+        ap (slice_get (sig ++ Holds (one Variable string_ty) ∷ Holds (one Variable (option_ty string_ty)) ∷ [])) (sym (store_len p t sig sig m.store store)) ∙ get_mid sig (Holds (one Variable string_ty)) (Holds (one Variable (option_ty string_ty)) ∷ []),
+        (Variable, agrees_self [] Variable, refl),
+      )
+
+      at_second : slice_get (sig ++ Holds (one Variable string_ty) ∷ Holds (one Variable (option_ty string_ty)) ∷ []) (suc (length m.store)) ≡ Some (Holds (one Variable (option_ty string_ty)))
+      at_second =
+          let front = sig ++ Holds (one Variable string_ty) ∷ [] in
+          let n : suc (length m.store) ≡ length front = omega (arith, store_len p t sig sig m.store store, length-append sig (Holds (one Variable string_ty) ∷ [])) in
+          ap (slice_get (sig ++ Holds (one Variable string_ty) ∷ Holds (one Variable (option_ty string_ty)) ∷ [])) n ∙ ap (λ l. slice_get l (length front)) (sym (append_assoc sig (Holds (one Variable string_ty) ∷ []) (Holds (one Variable (option_ty string_ty)) ∷ []))) ∙ get_last front (Holds (one Variable (option_ty string_ty)))
+
+      making : IsMaking p t 1 (record { name = 6; params = typing.library.param ∷ []; arg = Variable typing.library.param })
+      making = record { is_con = library_con p t typing.library 6 1 _ _ refl refl; covers = inl refl; new = λ e. cc }
+
+  -- ---- Characters of a list
+
+  abbrev Rank : ℕ → Value → Type 0
+  Rank n (At a) = suc a < n
+  Rank n _ = 0 < n
+
+  rank_of : (n b : ℕ) (y : Value) → IsBelow b y → b < n → Rank n y
+  rank_of n b (At a) h lt = omega (arith, h, lt)
+  rank_of n b (Number z) h lt = omega (arith, lt)
+  rank_of n b (Letter z) h lt = omega (arith, lt)
+  rank_of n b Nothing h lt = omega (arith, lt)
+  rank_of n b (Tag z) h lt = omega (arith, lt)
+  rank_of n b (Constant z) h lt = omega (arith, lt)
+  rank_of n b (Builtin z) h lt = omega (arith, lt)
+  rank_of n b (Maker z) h lt = omega (arith, lt)
+  rank_of n b RefMaker h lt = omega (arith, lt)
+  rank_of n b (Library z) h lt = omega (arith, lt)
+
+  tuple_below : (w x y : Value) (a : ℕ) → IsBelow a w → tuple_of m.store w ≡ Some (x ∷ y ∷ []) → (b : ℕ) × (b < a) × IsBelow b y
+  tuple_below (At b) x y a h e = go (slice_get m.store b) refl e
+    where
+      go : (o : Option Block) → slice_get m.store b ≡ o → tuple_block o ≡ Some (x ∷ y ∷ []) → (b : ℕ) × (b < a) × IsBelow b y
+      go (Some (Tuple vs)) q e =
+          let same : vs ≡ x ∷ y ∷ [] = cc in
+          let n : 0 + b ≡ b = omega arith in
+          let d = subst (λ vs. AllByRecursion (IsBelow b) vs) same (subst (λ n. Descends n (Tuple vs)) n (descend_get 0 m.store b (Tuple vs) descend q)) in
+          (b, h, d.1.0)
+      go None q e = cc
+      go (Some _) q e = cc
+  tuple_below Nothing x y a h e = cc
+  tuple_below _ x y a h e = cc
+
+  letters_some : (n : ℕ) (v : Value) → HasTy p t sig v (list_ty char_ty) → Rank n v → (cs : List ℕ) × (letters n m.store v ≡ Some cs)
+  letters_some zero v h r = absurd (no_rank v r)
+    where
+      no_rank : (v : Value) → Rank 0 v → ⊥
+      no_rank (At a) r = omega (arith, r)
+      no_rank (Number z) r = omega (arith, r)
+      no_rank (Letter z) r = omega (arith, r)
+      no_rank Nothing r = omega (arith, r)
+      no_rank (Tag z) r = omega (arith, r)
+      no_rank (Constant z) r = omega (arith, r)
+      no_rank (Builtin z) r = omega (arith, r)
+      no_rank (Maker z) r = omega (arith, r)
+      no_rank RefMaker r = omega (arith, r)
+      no_rank (Library z) r = omega (arith, r)
+  letters_some (suc n) v h r =
+      ⊎_elim (λ k. ([], ap (letters (suc n) m.store) k.1)) (λ k. go k.0 k.1 k.2 k.3 k.4 (λ y. letters_some n y)) (a_list p t typing sig m.store store char_ty v h)
+    where
+      go : (a : Address) (w : Value) → v ≡ At a → slice_get m.store a ≡ Some (Applied 1 w) → HasTy p t sig w (tuple (char_ty ∷ list_ty char_ty ∷ [])) → ((y : Value) → HasTy p t sig y (list_ty char_ty) → Rank n y → (cs : List ℕ) × (letters n m.store y ≡ Some cs)) → (cs : List ℕ) × (letters (suc n) m.store v ≡ Some cs)
+      go a w ev eb hw rest =
+          let q = a_pair char_ty (list_ty char_ty) w hw in
+          let c = a_char p t typing sig m.store store q.0 q.3 in
+          let lt : suc a < suc n = subst (Rank (suc n)) ev r in
+          let z : 0 + a ≡ a = omega arith in
+          let b = tuple_below w q.0 q.1 a (subst (λ n. Descends n (Applied 1 w)) z (descend_get 0 m.store a (Applied 1 w) descend eb)) q.2 in
+          let ih = rest q.1 q.4 (rank_of n b.0 q.1 b.2 (omega (arith, lt, b.1))) in
+          let tail = λ (pair : Value × Value). letter_of pair.0 >>= λ c. letters n m.store pair.1 >>= λ cs. Some (c ∷ cs) in (
+            c.0 ∷ ih.0,
+            ap (letters (suc n) m.store) ev
+            ∙ ap (λ o. applied_block 1 o >>= λ cell. tuple_of m.store cell >>= λ fields. pair_of fields >>= tail) eb
+            ∙ ap (λ o. o >>= λ fields. pair_of fields >>= tail) q.2
+            ∙ ap (λ x. letter_of x >>= λ c. letters n m.store q.1 >>= λ cs. Some (c ∷ cs)) c.1
+            ∙ ap (λ o. o >>= λ cs. Some (c.0 ∷ cs)) ih.1,
+          )
+  -- ---- A primitive on its argument
+
+  builtin_safe : (f : Primitive) (v : Value) (k : Option Address) (g : TyVar → Tree) (a b : Tree) → arrow a b ≡ inst g (primitive_poly f).body → HasTy p t sig v a → Takes1 k b → Safe p t m.store (builtin p m k f v)
+  builtin_safe prim.Plus v k g a b q hv hk =
+      let e : arrow a b ≡ arrow (tuple (int_ty ∷ int_ty ∷ [])) (int_ty) = q in
+      let ea : a ≡ tuple (int_ty ∷ int_ty ∷ []) = cc in
+      let hb : Takes1 k (int_ty) = (let eb : b ≡ int_ty = cc in subst (Takes1 k) eb hk) in
+      let ha : HasTy p t sig v (tuple (int_ty ∷ int_ty ∷ [])) = subst (HasTy p t sig v) ea hv in
+      on_two_ints prim.Plus v k (λ x y. int_result (x +ℤ y) k) (λ x y. refl) (λ x y. int_safe (x +ℤ y) k hb) ha
+  builtin_safe prim.Minus v k g a b q hv hk =
+      let e : arrow a b ≡ arrow (tuple (int_ty ∷ int_ty ∷ [])) (int_ty) = q in
+      let ea : a ≡ tuple (int_ty ∷ int_ty ∷ []) = cc in
+      let hb : Takes1 k (int_ty) = (let eb : b ≡ int_ty = cc in subst (Takes1 k) eb hk) in
+      let ha : HasTy p t sig v (tuple (int_ty ∷ int_ty ∷ [])) = subst (HasTy p t sig v) ea hv in
+      on_two_ints prim.Minus v k (λ x y. int_result (x -ℤ y) k) (λ x y. refl) (λ x y. int_safe (x -ℤ y) k hb) ha
+  builtin_safe prim.Times v k g a b q hv hk =
+      let e : arrow a b ≡ arrow (tuple (int_ty ∷ int_ty ∷ [])) (int_ty) = q in
+      let ea : a ≡ tuple (int_ty ∷ int_ty ∷ []) = cc in
+      let hb : Takes1 k (int_ty) = (let eb : b ≡ int_ty = cc in subst (Takes1 k) eb hk) in
+      let ha : HasTy p t sig v (tuple (int_ty ∷ int_ty ∷ [])) = subst (HasTy p t sig v) ea hv in
+      on_two_ints prim.Times v k (λ x y. int_result (x *ℤ y) k) (λ x y. refl) (λ x y. int_safe (x *ℤ y) k hb) ha
+  builtin_safe prim.Quotient v k g a b q hv hk =
+      let e : arrow a b ≡ arrow (tuple (int_ty ∷ int_ty ∷ [])) (int_ty) = q in
+      let ea : a ≡ tuple (int_ty ∷ int_ty ∷ []) = cc in
+      let hb : Takes1 k (int_ty) = (let eb : b ≡ int_ty = cc in subst (Takes1 k) eb hk) in
+      let ha : HasTy p t sig v (tuple (int_ty ∷ int_ty ∷ [])) = subst (HasTy p t sig v) ea hv in
+      on_two_ints prim.Quotient v k (λ x y. divided floor_div x y k) (λ x y. refl) (λ x y. divided_safe floor_div x y k hb) ha
+  builtin_safe prim.Modulo v k g a b q hv hk =
+      let e : arrow a b ≡ arrow (tuple (int_ty ∷ int_ty ∷ [])) (int_ty) = q in
+      let ea : a ≡ tuple (int_ty ∷ int_ty ∷ []) = cc in
+      let hb : Takes1 k (int_ty) = (let eb : b ≡ int_ty = cc in subst (Takes1 k) eb hk) in
+      let ha : HasTy p t sig v (tuple (int_ty ∷ int_ty ∷ [])) = subst (HasTy p t sig v) ea hv in
+      on_two_ints prim.Modulo v k (λ x y. divided floor_mod x y k) (λ x y. refl) (λ x y. divided_safe floor_mod x y k hb) ha
+  builtin_safe prim.Less v k g a b q hv hk =
+      let e : arrow a b ≡ arrow (tuple (int_ty ∷ int_ty ∷ [])) (bool_ty) = q in
+      let ea : a ≡ tuple (int_ty ∷ int_ty ∷ []) = cc in
+      let hb : Takes1 k (bool_ty) = (let eb : b ≡ bool_ty = cc in subst (Takes1 k) eb hk) in
+      let ha : HasTy p t sig v (tuple (int_ty ∷ int_ty ∷ [])) = subst (HasTy p t sig v) ea hv in
+      on_two_ints prim.Less v k (λ x y. Ret (truth (int_lt x y)) k) (λ x y. refl) (λ x y. ret_one (truth (int_lt x y)) k bool_ty (true_false (int_lt x y)) hb) ha
+  builtin_safe prim.Greater v k g a b q hv hk =
+      let e : arrow a b ≡ arrow (tuple (int_ty ∷ int_ty ∷ [])) (bool_ty) = q in
+      let ea : a ≡ tuple (int_ty ∷ int_ty ∷ []) = cc in
+      let hb : Takes1 k (bool_ty) = (let eb : b ≡ bool_ty = cc in subst (Takes1 k) eb hk) in
+      let ha : HasTy p t sig v (tuple (int_ty ∷ int_ty ∷ [])) = subst (HasTy p t sig v) ea hv in
+      on_two_ints prim.Greater v k (λ x y. Ret (truth (int_lt y x)) k) (λ x y. refl) (λ x y. ret_one (truth (int_lt y x)) k bool_ty (true_false (int_lt y x)) hb) ha
+  builtin_safe prim.AtMost v k g a b q hv hk =
+      let e : arrow a b ≡ arrow (tuple (int_ty ∷ int_ty ∷ [])) (bool_ty) = q in
+      let ea : a ≡ tuple (int_ty ∷ int_ty ∷ []) = cc in
+      let hb : Takes1 k (bool_ty) = (let eb : b ≡ bool_ty = cc in subst (Takes1 k) eb hk) in
+      let ha : HasTy p t sig v (tuple (int_ty ∷ int_ty ∷ [])) = subst (HasTy p t sig v) ea hv in
+      on_two_ints prim.AtMost v k (λ x y. Ret (truth (int_le x y)) k) (λ x y. refl) (λ x y. ret_one (truth (int_le x y)) k bool_ty (true_false (int_le x y)) hb) ha
+  builtin_safe prim.AtLeast v k g a b q hv hk =
+      let e : arrow a b ≡ arrow (tuple (int_ty ∷ int_ty ∷ [])) (bool_ty) = q in
+      let ea : a ≡ tuple (int_ty ∷ int_ty ∷ []) = cc in
+      let hb : Takes1 k (bool_ty) = (let eb : b ≡ bool_ty = cc in subst (Takes1 k) eb hk) in
+      let ha : HasTy p t sig v (tuple (int_ty ∷ int_ty ∷ [])) = subst (HasTy p t sig v) ea hv in
+      on_two_ints prim.AtLeast v k (λ x y. Ret (truth (int_le y x)) k) (λ x y. refl) (λ x y. ret_one (truth (int_le y x)) k bool_ty (true_false (int_le y x)) hb) ha
+  builtin_safe prim.Equal v k g a b q hv hk =
+      let x : Tree = g (record { num = 0; eq = true }) in
+      let e : arrow a b ≡ arrow (tuple (x ∷ x ∷ [])) bool_ty = q in
+      let ea : a ≡ tuple (x ∷ x ∷ []) = cc in
+      let eb : b ≡ bool_ty = cc in
+      let r = a_pair x x v (subst (HasTy p t sig v) ea hv) in
+      known (tuple_of m.store v) (r.0 ∷ r.1 ∷ []) (on_fields p m k prim.Equal) r.2 (compare_safe r.0 r.1 true k (subst (Takes1 k) eb hk))
+  builtin_safe prim.Unequal v k g a b q hv hk =
+      let x : Tree = g (record { num = 0; eq = true }) in
+      let e : arrow a b ≡ arrow (tuple (x ∷ x ∷ [])) bool_ty = q in
+      let ea : a ≡ tuple (x ∷ x ∷ []) = cc in
+      let eb : b ≡ bool_ty = cc in
+      let r = a_pair x x v (subst (HasTy p t sig v) ea hv) in
+      known (tuple_of m.store v) (r.0 ∷ r.1 ∷ []) (on_fields p m k prim.Unequal) r.2 (compare_safe r.0 r.1 false k (subst (Takes1 k) eb hk))
+  builtin_safe prim.Deref v k g a b q hv hk =
+      let x : Tree = g (record { num = 0; eq = false }) in
+      let e : arrow a b ≡ arrow (ref_ty x) x = q in
+      let ea : a ≡ ref_ty x = cc in
+      let eb : b ≡ x = cc in
+      let r = a_ref p t typing sig m.store store x v (subst (HasTy p t sig v) ea hv) in
+      known (cell_block (block_of m.store v)) r.1 (λ content. going m (Ret content k)) (ap (λ v. cell_block (block_of m.store v)) r.3 ∙ ap cell_block r.4) (going_safe (Ret r.1 k) (ret_one r.1 k x r.6 (subst (Takes1 k) eb hk)))
+  builtin_safe prim.Assign v k g a b q hv hk =
+      let x : Tree = g (record { num = 0; eq = false }) in
+      let e : arrow a b ≡ arrow (tuple (ref_ty x ∷ x ∷ [])) unit_ty = q in
+      let ea : a ≡ tuple (ref_ty x ∷ x ∷ []) = cc in
+      let eb : b ≡ unit_ty = cc in
+      let r = a_pair (ref_ty x) x v (subst (HasTy p t sig v) ea hv) in
+      let c = a_ref p t typing sig m.store store x r.0 r.3 in
+      known (tuple_of m.store v) (r.0 ∷ r.1 ∷ []) (on_fields p m k prim.Assign) r.2
+      (subst (λ w. Safe p t m.store (on_two p m k prim.Assign w r.1)) (sym c.3)
+      (subst (λ o. Safe p t m.store (assign p m k o (At c.0) r.1)) (sym c.4)
+      (record {
+        after = set m.store c.0 (Cell r.1);
+        done = ap (λ o. replaced run.view m.store c.0 (Cell r.1) o) c.4;
+        sig = sig;
+        store = store_set p t sig sig m.store c.0 (Holds c.2) (Cell r.1) store c.5 (x, c.7, r.4);
+        descend = descend_set 0 m.store c.0 r.1 descend;
+        control = ret_one Nothing k unit_ty refl (subst (Takes1 k) eb hk);
+      })))
+  builtin_safe prim.Concat v k g a b q hv hk =
+      let e : arrow a b ≡ arrow (tuple (string_ty ∷ string_ty ∷ [])) (string_ty) = q in
+      let ea : a ≡ tuple (string_ty ∷ string_ty ∷ []) = cc in
+      let hb : Takes1 k (string_ty) = (let eb : b ≡ string_ty = cc in subst (Takes1 k) eb hk) in
+      let ha : HasTy p t sig v (tuple (string_ty ∷ string_ty ∷ [])) = subst (HasTy p t sig v) ea hv in
+      let r = a_pair string_ty string_ty v ha in
+      let x = a_string p t typing sig m.store store r.0 r.3 in
+      let y = a_string p t typing sig m.store store r.1 r.4 in
+      known (tuple_of m.store v) (r.0 ∷ r.1 ∷ []) (on_fields p m k prim.Concat) r.2
+      (known (bytes_of p m.store r.0) x.0 _ x.1 (known (bytes_of p m.store r.1) y.0 _ y.1 (text_safe (x.0 ++ y.0) k hb)))
+  builtin_safe prim.Compare v k g a b q hv hk =
+      let e : arrow a b ≡ arrow (tuple (string_ty ∷ string_ty ∷ [])) (order_ty) = q in
+      let ea : a ≡ tuple (string_ty ∷ string_ty ∷ []) = cc in
+      let hb : Takes1 k (order_ty) = (let eb : b ≡ order_ty = cc in subst (Takes1 k) eb hk) in
+      let ha : HasTy p t sig v (tuple (string_ty ∷ string_ty ∷ [])) = subst (HasTy p t sig v) ea hv in
+      let r = a_pair string_ty string_ty v ha in
+      let x = a_string p t typing sig m.store store r.0 r.3 in
+      let y = a_string p t typing sig m.store store r.1 r.4 in
+      known (tuple_of m.store v) (r.0 ∷ r.1 ∷ []) (on_fields p m k prim.Compare) r.2
+      (known (bytes_of p m.store r.0) x.0 _ x.1 (known (bytes_of p m.store r.1) y.0 _ y.1 (going_safe (Ret (Tag (order_of x.0 y.0)) k) (ret_one (Tag (order_of x.0 y.0)) k order_ty (ordered x.0 y.0) hb))))
+  builtin_safe prim.Sub v k g a b q hv hk =
+      let e : arrow a b ≡ arrow (tuple (string_ty ∷ int_ty ∷ [])) (char_ty) = q in
+      let ea : a ≡ tuple (string_ty ∷ int_ty ∷ []) = cc in
+      let hb : Takes1 k (char_ty) = (let eb : b ≡ char_ty = cc in subst (Takes1 k) eb hk) in
+      let ha : HasTy p t sig v (tuple (string_ty ∷ int_ty ∷ [])) = subst (HasTy p t sig v) ea hv in
+      let r = a_pair string_ty int_ty v ha in
+      let x = a_string p t typing sig m.store store r.0 r.3 in
+      let y = an_int p t typing sig m.store store r.1 r.4 in
+      known (tuple_of m.store v) (r.0 ∷ r.1 ∷ []) (on_fields p m k prim.Sub) r.2
+      (subst (λ w. Safe p t m.store (on_two p m k prim.Sub r.0 w)) (sym y.1) (at_place r.0 x.0 x.1 y.0 k hb))
+  builtin_safe prim.Substring v k g a b q hv hk =
+      let e : arrow a b ≡ arrow (tuple (string_ty ∷ int_ty ∷ int_ty ∷ [])) (string_ty) = q in
+      let ea : a ≡ tuple (string_ty ∷ int_ty ∷ int_ty ∷ []) = cc in
+      let hb : Takes1 k (string_ty) = (let eb : b ≡ string_ty = cc in subst (Takes1 k) eb hk) in
+      let ha : HasTy p t sig v (tuple (string_ty ∷ int_ty ∷ int_ty ∷ [])) = subst (HasTy p t sig v) ea hv in
+      let r = a_triple string_ty int_ty int_ty v ha in
+      let x = a_string p t typing sig m.store store r.0 r.4 in
+      let y = an_int p t typing sig m.store store r.1 r.5 in
+      let z = an_int p t typing sig m.store store r.2 r.6 in
+      known (tuple_of m.store v) (r.0 ∷ r.1 ∷ r.2 ∷ []) (on_fields p m k prim.Substring) r.3
+      (subst (λ w. Safe p t m.store (on_three p m k prim.Substring r.0 w r.2)) (sym y.1)
+      (subst (λ w. Safe p t m.store (on_three p m k prim.Substring r.0 (Number y.0) w)) (sym z.1) (at_places r.0 x.0 x.1 y.0 z.0 k hb)))
+  builtin_safe prim.Negate v k g a b q hv hk =
+      let e : arrow a b ≡ arrow (int_ty) (int_ty) = q in
+      let ea : a ≡ int_ty = cc in
+      let hb : Takes1 k (int_ty) = (let eb : b ≡ int_ty = cc in subst (Takes1 k) eb hk) in
+      let ha : HasTy p t sig v (int_ty) = subst (HasTy p t sig v) ea hv in
+      let x = an_int p t typing sig m.store store v ha in
+      subst (λ v. Safe p t m.store (builtin p m k prim.Negate v)) (sym x.1) (going_safe (int_result (neg_ℤ x.0) k) (int_safe (neg_ℤ x.0) k hb))
+  builtin_safe prim.Abs v k g a b q hv hk =
+      let e : arrow a b ≡ arrow (int_ty) (int_ty) = q in
+      let ea : a ≡ int_ty = cc in
+      let hb : Takes1 k (int_ty) = (let eb : b ≡ int_ty = cc in subst (Takes1 k) eb hk) in
+      let ha : HasTy p t sig v (int_ty) = subst (HasTy p t sig v) ea hv in
+      let x = an_int p t typing sig m.store store v ha in
+      subst (λ v. Safe p t m.store (builtin p m k prim.Abs v)) (sym x.1) (going_safe (int_result (pos (unsigned_abs x.0)) k) (int_safe (pos (unsigned_abs x.0)) k hb))
+  builtin_safe prim.Chr v k g a b q hv hk =
+      let e : arrow a b ≡ arrow (int_ty) (char_ty) = q in
+      let ea : a ≡ int_ty = cc in
+      let hb : Takes1 k (char_ty) = (let eb : b ≡ char_ty = cc in subst (Takes1 k) eb hk) in
+      let ha : HasTy p t sig v (int_ty) = subst (HasTy p t sig v) ea hv in
+      let x = an_int p t typing sig m.store store v ha in
+      subst (λ v. Safe p t m.store (builtin p m k prim.Chr v)) (sym x.1) (a_letter_of x.0 k hb)
+  builtin_safe prim.Ord v k g a b q hv hk =
+      let e : arrow a b ≡ arrow (char_ty) (int_ty) = q in
+      let ea : a ≡ char_ty = cc in
+      let hb : Takes1 k (int_ty) = (let eb : b ≡ int_ty = cc in subst (Takes1 k) eb hk) in
+      let ha : HasTy p t sig v (char_ty) = subst (HasTy p t sig v) ea hv in
+      let x = a_char p t typing sig m.store store v ha in
+      subst (λ v. Safe p t m.store (builtin p m k prim.Ord v)) (sym x.1) (going_safe (Ret (Number (pos x.0)) k) (ret_one (Number (pos x.0)) k int_ty refl hb))
+  builtin_safe prim.Str v k g a b q hv hk =
+      let e : arrow a b ≡ arrow (char_ty) (string_ty) = q in
+      let ea : a ≡ char_ty = cc in
+      let hb : Takes1 k (string_ty) = (let eb : b ≡ string_ty = cc in subst (Takes1 k) eb hk) in
+      let ha : HasTy p t sig v (char_ty) = subst (HasTy p t sig v) ea hv in
+      let x = a_char p t typing sig m.store store v ha in
+      subst (λ v. Safe p t m.store (builtin p m k prim.Str v)) (sym x.1) (text_safe (x.0 ∷ []) k hb)
+  builtin_safe prim.Size v k g a b q hv hk =
+      let e : arrow a b ≡ arrow (string_ty) (int_ty) = q in
+      let ea : a ≡ string_ty = cc in
+      let hb : Takes1 k (int_ty) = (let eb : b ≡ int_ty = cc in subst (Takes1 k) eb hk) in
+      let ha : HasTy p t sig v (string_ty) = subst (HasTy p t sig v) ea hv in
+      let x = a_string p t typing sig m.store store v ha in
+      known (bytes_of p m.store v) x.0 _ x.1 (going_safe (Ret (Number (pos (length x.0))) k) (ret_one (Number (pos (length x.0))) k int_ty refl hb))
+  builtin_safe prim.Implode v k g a b q hv hk =
+      let e : arrow a b ≡ arrow (list_ty char_ty) (string_ty) = q in
+      let ea : a ≡ list_ty char_ty = cc in
+      let hb : Takes1 k (string_ty) = (let eb : b ≡ string_ty = cc in subst (Takes1 k) eb hk) in
+      let ha : HasTy p t sig v (list_ty char_ty) = subst (HasTy p t sig v) ea hv in
+      let x = letters_some (suc (length m.store)) v ha (rank_of (suc (length m.store)) (length m.store) v (below v (list_ty char_ty) ha) (omega arith)) in
+      known (letters (suc (length m.store)) m.store v) x.0 (text_result p m k) x.1 (text_safe x.0 k hb)
+  builtin_safe prim.Print v k g a b q hv hk =
+      let e : arrow a b ≡ arrow (string_ty) (unit_ty) = q in
+      let ea : a ≡ string_ty = cc in
+      let hb : Takes1 k (unit_ty) = (let eb : b ≡ unit_ty = cc in subst (Takes1 k) eb hk) in
+      let ha : HasTy p t sig v (string_ty) = subst (HasTy p t sig v) ea hv in
+      let x = a_string p t typing sig m.store store v ha in
+      known (bytes_of p m.store v) x.0 (λ bytes. writing m bytes (Ret Nothing k)) x.1
+      (record { after = m.store; done = refl; sig = sig; store = store; descend = descend; control = ret_one Nothing k unit_ty refl hb })
+  builtin_safe prim.InputLine v k g a b q hv hk =
+      let e : arrow a b ≡ arrow (instream_ty) (option_ty string_ty) = q in
+      let ea : a ≡ instream_ty = cc in
+      let hb : Takes1 k (option_ty string_ty) = (let eb : b ≡ option_ty string_ty = cc in subst (Takes1 k) eb hk) in
+      let ha : HasTy p t sig v (instream_ty) = subst (HasTy p t sig v) ea hv in
+      let x = a_stream p t typing sig m.store store v ha in
+      subst (λ v. Safe p t m.store (builtin p m k prim.InputLine v)) (sym x) (line_safe m.input k hb)
+  builtin_safe prim.StdIn v k g a b q hv hk =
+      let e : arrow a b ≡ instream_ty = q in cc
+
+  -- ---- Apply
+
+  -- where one type is asked there is one
+  takes_single : (f : Family) (k : Option Address) → f.gens ≡ [] → Accepts p t sig k (TakesAll p t f) → Takes1 k (inst f.at f.ty)
+  takes_single f k n hk =
+      accept_map sig k (TakesAll p t f) (λ g b. ((v : Tree) → InFamily g v → v ≡ inst f.at f.ty) × (b ≡ false)) (λ g b q. ((λ v i. single f v n (q.0 v i)), q.1)) hk
+
+  no_maker : (f : Value) (gens : List TyVar) → ((k : ℕ) → f ≡ Maker k → ⊥) → (gens ≡ []) ⊎ IsMaker p t f → gens ≡ []
+  no_maker f gens never h = ⊎_elim (λ e. e) (λ k. absurd (never k.0 k.1)) h
+
+  enter_safe : (i : ℕ) (rules : List Rule) (env : Env) (v : Value) (k : Option Address) (g : TyVar → Tree) (a b : Tree) → slice_get p.nodes i ≡ Some (node.Fn rules) → arrow a b ≡ inst g (t.types i) → EnvTy p t sig g (free p.nodes i) env → HasTy p t sig v a → Takes1 k b → Safe p t m.store (by_rule p m rules env v k (raising exn.MatchExn k))
+  enter_safe i rules env v k g a b ei et he hv hk =
+      let r = rule_at p t typing bare.numbered bare.sorts i (node.Fn rules) ei in
+      let s = sorts_at p t typing bare.numbered bare.sorts i (node.Fn rules) ei in
+      let same : arrow a b ≡ arrow (inst g r.0) (inst g r.1) = et ∙ ap (inst g) r.2 in
+      let ea : a ≡ inst g r.0 = cc in
+      let eb : b ≡ inst g r.1 = cc in
+      rule_safe rules env v k (raising exn.MatchExn k) g r.0 r.1 (record { context = t.contexts i; match = r.3; bodies = rules_exp i rules s (bare.numbered i (node.Fn rules) ei) }) (subst (λ xs. EnvTy p t sig g xs env) (free_unfold p.nodes bare.numbered i (node.Fn rules) ei) he) (subst (HasTy p t sig v) ea hv)
+      (accept_map sig k (λ f c. ((v : Tree) → InFamily f v → v ≡ b) × (c ≡ false)) (TakesAll p t (one g r.1)) (λ f c q. ((λ u x. (g, agrees_self [] g, q.0 u x ∙ eb)), q.1)) hk) (raise_one exn.MatchExn k b refl hk)
+
+  packet_safe : (x v : Value) (k : Option Address) (a b : Tree) → IsName p t sig x (arrow a exn_ty) → HasTy p t sig v a → b ≡ exn_ty → Takes1 k b → Safe p t m.store (making m (Packet x v) (λ a. Ret (At a) k))
+  packet_safe x v k a b hx hv e hk =
+      made_one (Packet x v) k exn_ty ((λ u i. is_one exn_ty u i), a, hx, hv) tt (subst (Takes1 k) e hk)
+
+  held_safe : (ad : Address) (w : Family) (a b : Tree) (c : Block) (v : Value) (k : Option Address) → BlockTy p t sig c (Holds w) → InFamily w (arrow a b) → HasTy p t sig v a → Takes1 k b → Safe p t m.store (apply_block p m (Some c) (At ad) v k)
+  held_safe ad w a b (Closure i rules env) v k h x hv hk =
+      enter_safe i rules env v k x.0 a b h.0 (x.2 ∙ ap (inst x.0) h.1) (h.2 x.0 x.1) hv hk
+  held_safe ad w a b (Tuple vs) v k h x hv hk = absurd (let y = h (arrow a b) x in let z = y.2 in cc)
+  held_safe ad w a b (Applied n u) v k h x hv hk = absurd (let y = h (arrow a b) x in let z = y.3 in cc)
+  held_safe ad w a b (Text bytes) v k h x hv hk = absurd (let z = h (arrow a b) x in cc)
+  held_safe ad w a b (Cell u) v k h x hv hk = absurd (let z = h.1 (arrow a b) x in cc)
+  held_safe ad w a b (Packet y u) v k h x hv hk = absurd (let z = h.0 (arrow a b) x in cc)
+  held_safe ad w a b _ v k h x hv hk = absurd h
+
+  named_safe : (ad : Address) (w a b : Tree) (c : Block) (v : Value) (k : Option Address) → slice_get sig ad ≡ Some (Names w) → BlockTy p t sig c (Names w) → arrow a b ≡ w → HasTy p t sig v a → Takes1 k b → Safe p t m.store (apply_block p m (Some c) (At ad) v k)
+  named_safe ad w a b (ExnName x) v k g h e hv hk = go h.1
+    where
+      go : IsExnCon w → Safe p t m.store (apply_block p m (Some (ExnName x)) (At ad) v k)
+      go (inl q) = absurd (let z = e ∙ q in cc)
+      go (inr q) =
+          let z : arrow a b ≡ arrow q.0 exn_ty = e ∙ q.1 in
+          let ea : a ≡ q.0 = cc in
+          let eb : b ≡ exn_ty = cc in
+          packet_safe (At ad) v k a b (g ∙ ap (λ w. Some (Names w)) (q.1 ∙ ap (λ u. arrow u exn_ty) (sym ea))) hv eb hk
+  named_safe ad w a b _ v k g h e hv hk = absurd h
+
+  at_safe : (ad : Address) (e : Entry) (a b : Tree) (v : Value) (k : Option Address) → slice_get sig ad ≡ Some e → EntryTy p t e (arrow a b) → HasTy p t sig v a → Takes1 k b → Safe p t m.store (apply_block p m (slice_get m.store ad) (At ad) v k)
+  at_safe ad (Holds w) a b v k g h hv hk =
+      let c = store_get p t sig sig m.store ad (Holds w) store g in
+      subst (λ o. Safe p t m.store (apply_block p m o (At ad) v k)) (sym c.1) (held_safe ad w a b c.0 v k c.2 h hv hk)
+  at_safe ad (Names w) a b v k g h hv hk =
+      let c = store_get p t sig sig m.store ad (Names w) store g in
+      subst (λ o. Safe p t m.store (apply_block p m o (At ad) v k)) (sym c.1) (named_safe ad w a b c.0 v k g c.2 h hv hk)
+  at_safe ad _ a b v k g h hv hk = absurd h
+
+  maker_arg : (f : Family) (arg : Tree) (n : ℕ) (v : Value) → ((g : TyVar → Tree) → Agrees f.gens f.at g → HasTy p t sig (Maker n) (arrow (inst g arg) (inst g f.ty))) → ((g : TyVar → Tree) → Agrees f.gens f.at g → HasTy p t sig v (inst g arg)) → (u : Tree) → InFamily f u → IsApplied p t sig n v u
+  maker_arg f arg n v hf hv u x =
+      let h = hf x.0 x.1 in
+      let e : arrow (inst x.0 arg) (inst x.0 f.ty) ≡ arrow (inst h.1 h.0.arg) (inst h.1 (data_ty p t h.0.name h.0.params)) = h.3 in
+      let ea : inst x.0 arg ≡ inst h.1 h.0.arg = cc in
+      let eb : inst x.0 f.ty ≡ inst h.1 (data_ty p t h.0.name h.0.params) = cc in
+      (h.0, h.1, h.2, x.2 ∙ eb, subst (HasTy p t sig v) ea (hv x.0 x.1))
+
+  apply_safe : (f v : Value) (k : Option Address) → ApplyTy p t sig f v k → Safe p t m.store (apply p m f v k)
+  apply_safe f v k h = go f refl (h.function h.family.at (agrees_self h.family.gens h.family.at))
+    where
+      a : Tree
+      a = inst h.family.at h.arg
+
+      b : Tree
+      b = inst h.family.at h.family.ty
+
+      hv : HasTy p t sig v (inst h.family.at h.arg)
+      hv = h.argument h.family.at (agrees_self h.family.gens h.family.at)
+
+      taken : (g : Value) → f ≡ g → ((n : ℕ) → g ≡ Maker n → ⊥) → Takes1 k (inst h.family.at h.family.ty)
+      taken g e never = takes_single h.family k (no_maker f h.family.gens (λ n q. never n (sym e ∙ q)) h.fixed) h.takes
+
+      library : (e : LibraryExn) → arrow (inst h.family.at h.arg) (inst h.family.at h.family.ty) ≡ library_exn e → (library_exn e ≡ exn_ty) ⊎ (library_exn e ≡ arrow string_ty exn_ty) → Takes1 k (inst h.family.at h.family.ty) → Safe p t m.store (apply p m (Library e) v k)
+      library e q (inl z) hk = absurd (let y = q ∙ z in cc)
+      library e q (inr z) hk =
+          let y : arrow (inst h.family.at h.arg) (inst h.family.at h.family.ty) ≡ arrow string_ty exn_ty = q ∙ z in
+          let eb : inst h.family.at h.family.ty ≡ exn_ty = cc in
+          packet_safe (Library e) v k (inst h.family.at h.arg) (inst h.family.at h.family.ty) (ap (arrow (inst h.family.at h.arg)) (sym eb) ∙ q) hv eb hk
+
+      go : (g : Value) → f ≡ g → HasTy p t sig f (arrow (inst h.family.at h.arg) (inst h.family.at h.family.ty)) → Safe p t m.store (apply p m g v k)
+      go (At ad) e hf =
+          let q = subst (λ g. HasTy p t sig g (arrow (inst h.family.at h.arg) (inst h.family.at h.family.ty))) e hf in
+          at_safe ad q.0 (inst h.family.at h.arg) (inst h.family.at h.family.ty) v k q.1 q.2 hv (taken (At ad) e (λ n q. cc))
+      go (Library l) e hf =
+          library l (subst (λ g. HasTy p t sig g (arrow (inst h.family.at h.arg) (inst h.family.at h.family.ty))) e hf) (exn_con l) (taken (Library l) e (λ n q. cc))
+      go (Maker n) e hf =
+          made_safe (Applied n v) h.family k
+          (maker_arg h.family h.arg n v (λ g x. subst (λ f. HasTy p t sig f (arrow (inst g h.arg) (inst g h.family.ty))) e (h.function g x)) h.argument)
+          (below v (inst h.family.at h.arg) hv) h.takes
+      go RefMaker e hf =
+          let q = subst (λ g. HasTy p t sig g (arrow (inst h.family.at h.arg) (inst h.family.at h.family.ty))) e hf in
+          let z : arrow (inst h.family.at h.arg) (inst h.family.at h.family.ty) ≡ arrow q.0 (ref_ty q.0) = q.1 in
+          let ea : inst h.family.at h.arg ≡ q.0 = cc in
+          let eb : inst h.family.at h.family.ty ≡ ref_ty q.0 = cc in
+          made_one (Cell v) k (ref_ty q.0) (q.0, (λ u i. is_one (ref_ty q.0) u i), subst (HasTy p t sig v) ea hv) tt (subst (Takes1 k) eb (taken RefMaker e (λ n q. cc)))
+      go (Builtin f2) e hf =
+          let q = subst (λ g. HasTy p t sig g (arrow (inst h.family.at h.arg) (inst h.family.at h.family.ty))) e hf in
+          builtin_safe f2 v k q.0 (inst h.family.at h.arg) (inst h.family.at h.family.ty) q.1 hv (taken (Builtin f2) e (λ n q. cc))
+      go (Number z) e hf =
+          absurd (let q = subst (λ g. HasTy p t sig g (arrow (inst h.family.at h.arg) (inst h.family.at h.family.ty))) e hf in cc)
+      go (Letter z) e hf =
+          absurd (let q = subst (λ g. HasTy p t sig g (arrow (inst h.family.at h.arg) (inst h.family.at h.family.ty))) e hf in cc)
+      go Nothing e hf =
+          absurd (let q = subst (λ g. HasTy p t sig g (arrow (inst h.family.at h.arg) (inst h.family.at h.family.ty))) e hf in cc)
+      go (Tag z) e hf =
+          absurd (let q = subst (λ g. HasTy p t sig g (arrow (inst h.family.at h.arg) (inst h.family.at h.family.ty))) e hf in let y = q.4 in cc)
+      go (Constant z) e hf =
+          absurd (let q = subst (λ g. HasTy p t sig g (arrow (inst h.family.at h.arg) (inst h.family.at h.family.ty))) e hf in let y = q.0 in cc)
+
+  -- ---- Eq
+
+  pend_descend : (pairs : List (Value × Value)) (next : Option Address) (n a : ℕ) → AllDescend a (pend pairs next n).0
+  pend_descend [] next n a = tt
+  pend_descend (q ∷ pairs) next n a =
+      descend_append a (pend pairs next n).0 (Pending q.0 q.1 (pend pairs next n).1 ∷ []) (pend_descend pairs next n a) (tt, tt)
+
+  pend_safe : (pairs : List (Value × Value)) (next : Option Address) → AreCompared p t sig next → (es : List Entry) × StoreTy p t (sig ++ es) es (pend pairs next (length m.store)).0 × AreCompared p t (sig ++ es) (pend pairs next (length m.store)).1
+  pend_safe [] next h = ([], tt, compared_up p t sig [] next h)
+  pend_safe (q ∷ pairs) next h =
+      let r = pend_safe pairs next h in
+      let rest = pend pairs next (length m.store) in
+      let more = Compares ∷ [] in
+      let full = (sig ++ r.0) ++ more in
+      let same : full ≡ sig ++ (r.0 ++ more) = append_assoc sig r.0 more in
+      let st : StoreTy p t full (r.0 ++ more) (rest.0 ++ Pending q.0 q.1 rest.1 ∷ []) = store_append p t full r.0 more rest.0 (Pending q.0 q.1 rest.1 ∷ []) (store_up p t (sig ++ r.0) more r.0 rest.0 r.1) (compared_up p t (sig ++ r.0) more rest.1 r.2, tt) in
+      let n : length m.store + length rest.0 ≡ length (sig ++ r.0) = omega (arith, length-append sig r.0, store_len p t sig sig m.store store, store_len p t (sig ++ r.0) r.0 rest.0 r.1) in
+      let at : slice_get full (length m.store + length rest.0) ≡ Some Compares = ap (slice_get full) n ∙ get_last (sig ++ r.0) Compares in
+      (r.0 ++ more, subst (λ full. StoreTy p t full (r.0 ++ more) (rest.0 ++ Pending q.0 q.1 rest.1 ∷ [])) same st, subst (λ full. slice_get full (length m.store + length rest.0) ≡ Some Compares) same at)
+
+  truth_ret : (q : Bool) (k : Option Address) → Accepts p t sig k (TakesAll p t (one Variable bool_ty)) → ControlTy p t sig (Ret (truth q) k)
+  truth_ret q k hk =
+      ret_one (truth q) k bool_ty (true_false q) (accept_map sig k (TakesAll p t (one Variable bool_ty)) (λ f b. ((v : Tree) → InFamily f v → v ≡ bool_ty) × (b ≡ false)) (λ f b r. ((λ v i. is_one bool_ty v (r.0 v i)), r.1)) hk)
+
+  verdict_safe : (r : Verdict) (next : Option Address) (q : Bool) (k : Option Address) → AreCompared p t sig next → Accepts p t sig k (TakesAll p t (one Variable bool_ty)) → Safe p t m.store (by_verdict m r next q k)
+  verdict_safe Equal next q k h hk = going_safe (Eq next q k) (h, hk)
+  verdict_safe Unequal next q k h hk = going_safe (Ret (truth (not q)) k) (truth_ret (not q) k hk)
+  verdict_safe (AsPairs pairs) next q k h hk =
+      let r = pend_safe pairs next h in
+      making_all_safe (pend pairs next (length m.store)).0 r.0 (Eq (pend pairs next (length m.store)).1 q k) r.1 (pend_descend pairs next (length m.store) (length m.store)) (r.2, accepts_up p t sig r.0 k (TakesAll p t (one Variable bool_ty)) hk)
+
+  compare_block_safe : (c : Block) (q : Bool) (k : Option Address) → BlockTy p t sig c Compares → Accepts p t sig k (TakesAll p t (one Variable bool_ty)) → Safe p t m.store (compare p m (Some c) q k)
+  compare_block_safe (Pending v w next) q k h hk = verdict_safe (compare_values p m.store v w) next q k h hk
+  compare_block_safe _ q k h hk = absurd h
+
+  -- ---- The step
+
+  pub step_safe : (c : Control) → ControlTy p t sig c → ((e : Ending) → c ≡ End e → ⊥) → Safe p t m.store (step p m c)
+  step_safe (Eval i env k) h n =
+      let q = h.exp in
+      known (slice_get p.nodes i) q.0 (λ n. eval p m i n env k) q.1 (eval_safe i q.0 env k q.1 q.2 h)
+  step_safe (Ret v None) h n = going_safe (End Normal) tt
+  step_safe (Ret v (Some a)) h n =
+      let g = store_get p t sig sig m.store a (Takes h.0 h.1) store h.2 in
+      subst (λ o. Safe p t m.store (ret p m o v)) (sym g.1) (ret_safe g.0 v h.0 h.1 g.2 h.3)
+  step_safe (Apply f v k) h n = apply_safe f v k h
+  step_safe (Raise x None) h n = uncaught_safe x h.0
+  step_safe (Raise x (Some a)) h n =
+      let g = store_get p t sig sig m.store a (Takes h.1.0 h.1.1) store h.1.2 in
+      subst (λ o. Safe p t m.store (raised p m o x)) (sym g.1) (raised_safe g.0 x h.1.0 h.1.1 g.2 h.0)
+  step_safe (Eq None q k) h n = going_safe (Ret (truth q) k) (truth_ret q k h.1)
+  step_safe (Eq (Some a) q k) h n =
+      let g = store_get p t sig sig m.store a Compares store h.0 in
+      subst (λ o. Safe p t m.store (compare p m o q k)) (sym g.1) (compare_block_safe g.0 q k g.2 h.1)
+  step_safe (End e) h n = absurd (n e refl)

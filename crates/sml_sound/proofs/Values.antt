@@ -12,7 +12,7 @@ use Rattle.sml_tree.specs.declared.bare.Rule.{Rule}
 use Rattle.sml_tree.specs.Free.{free}
 use Rattle.sml_types.specs.declared.types.TyVar.{TyVar}
 use Rattle.sml_types.specs.Tree.{Tree, Variable, App, NoParts, NameHead, FieldsHead, inst}
-use Rattle.sml_types.specs.Library.{NameType, ConType, parts, arrow, unit_ty, int_ty, char_ty, string_ty, exn_ty, ref_ty, instream_ty, library_exn, primitive_poly, library}
+use Rattle.sml_types.specs.Library.{NameType, ConType, list_ty, tuple, parts, arrow, unit_ty, int_ty, char_ty, string_ty, exn_ty, ref_ty, instream_ty, library_exn, primitive_poly, library}
 use Rattle.sml_types.specs.Typing.{Typing, IsTyping}
 use Rattle.simulation.proofs.Lists.{get_below}
 use Rattle.sml_def.specs.Maybe.{or_else}
@@ -21,7 +21,7 @@ use Rattle.sml_def.specs.Match.{bytes_of, text_block, fields_of, tuple_block, pa
 use Rattle.sml_def.specs.Step.{exn_name, name_of, spelled, exn_text}
 use Rattle.sml_sound.specs.TypedStates.{Family, InFamily, Entry, Holds, Names, EntryTy, HasTy, HaveTys, IsName, IsCon, data_ty, Making, IsMaking, EnvTy, IsTuple, IsApplied, BlockTy, StoreTy}
 use Rattle.sml_sound.proofs.Families.{parts_same}
-use Rattle.sml_sound.proofs.Tables.{library_has}
+use Rattle.sml_sound.proofs.Tables.{library_has, library_con, applied_arg}
 use Rattle.sml_sound.proofs.Grow.{store_get}
 
 some_eq : {A : Type 0} (x y : A) → Some x ≡ Some y → x ≡ y
@@ -295,3 +295,39 @@ module _ (p : Bare) (t : Typing) (typing : IsTyping p t) (sig : List Entry) (bs 
   -- a reference is a cell's address
   pub a_ref : (w : Tree) (v : Value) → HasTy p t sig v (ref_ty w) → (a : Address) × (x : Value) × (f : Family) × (v ≡ At a) × (slice_get bs a ≡ Some (Cell x)) × (slice_get sig a ≡ Some (Holds f)) × HasTy p t sig x w × ((u : Tree) → InFamily f u → u ≡ ref_ty w)
   a_ref w v h = a_ref_by w v (ref_ty w) (view v (ref_ty w) h) refl
+
+  cons_arg : (k : ℕ) (c : ConType) (a : Tree) → slice_get (record { text = codes "nil"; arg = None } ∷ record { text = codes "::"; arg = Some (tuple (Variable typing.library.param ∷ list_ty (Variable typing.library.param) ∷ [])) } ∷ []) k ≡ Some c → c.arg ≡ Some a → k ≡ 1
+  cons_arg zero c a e h =
+      let x : None ≡ Some a = ap (λ (c : ConType). c.arg) (some_eq _ _ e) ∙ h in cc
+  cons_arg (suc zero) c a e h = refl
+  cons_arg (suc (suc k)) c a e h = cc
+
+  list_cell : (x : Tree) (k : ℕ) (w : Value) (u : Tree) → IsApplied p t sig k w u → u ≡ list_ty x → (k ≡ 1) × HasTy p t sig w (tuple (x ∷ list_ty x ∷ []))
+  list_cell x k w u h d =
+      let e : list_ty x ≡ inst h.1 (data_ty p t h.0.name h.0.params) = sym d ∙ h.3 in
+      let same : h.0.name ≡ 5 = cc in
+      let c = library_has p t typing.library 5 k _ h.0.params (Some h.0.arg) refl (subst (λ n. IsCon p t n k h.0.params (Some h.0.arg)) same h.2.is_con) in
+      let first : k ≡ 1 = cons_arg k c.0 h.0.arg c.1 c.2 in
+      (first, applied_arg p t sig 1 5 (typing.library.param ∷ []) (tuple (Variable typing.library.param ∷ list_ty (Variable typing.library.param) ∷ [])) u (λ v. x) w (subst (λ k. IsApplied p t sig k w u) first h) (library_con p t typing.library 5 1 _ _ refl refl) d)
+
+  a_list_by : (x : Tree) (v : Value) (u : Tree) → View v u → u ≡ list_ty x → ((k : ℕ) × (v ≡ Tag k)) ⊎ ((a : Address) × (w : Value) × (v ≡ At a) × (slice_get bs a ≡ Some (Applied 1 w)) × HasTy p t sig w (tuple (x ∷ list_ty x ∷ [])))
+  a_list_by x v u (a_number z ev e) d = absurd (let x = sym d ∙ e in cc)
+  a_list_by x v u (a_letter c ev e) d = absurd (let x = sym d ∙ e in cc)
+  a_list_by x v u (a_nothing ev e) d = absurd (let x = sym d ∙ e in cc)
+  a_list_by x v u (a_tag k n ps g ev c e) d = inl (k, ev)
+  a_list_by x v u (a_constant c ev lt e) d = absurd (let x = sym d ∙ e in cc)
+  a_list_by x v u (a_primitive f g a b ev ei e) d = absurd (let x = sym d ∙ e in cc)
+  a_list_by x v u (an_input ev e) d = absurd (let x = sym d ∙ e in cc)
+  a_list_by x v u (a_maker k m g ev mk e) d = absurd (let x = sym d ∙ e in cc)
+  a_list_by x v u (a_ref_maker a ev e) d = absurd (let x = sym d ∙ e in cc)
+  a_list_by x v u (a_name is e name np) d = absurd (not_name 5 _ u (λ e. cc) d e)
+  a_list_by x v u (a_tuple a vs ev eb h) d = absurd (let x = sym d ∙ h.2 in cc)
+  a_list_by x v u (an_applied a k w ev eb h) d = let c = list_cell x k w u h d in inr (a, w, ev, subst (λ k. slice_get bs a ≡ Some (Applied k w)) c.0 eb, c.1)
+  a_list_by x v u (a_text a bytes ev eb e) d = absurd (let x = sym d ∙ e in cc)
+  a_list_by x v u (a_cell a w b f ev eb es ef h e) d = absurd (let x = sym d ∙ e in cc)
+  a_list_by x v u (a_packet a y w b ev eb is h e) d = absurd (let z = sym d ∙ e in cc)
+  a_list_by x v u (a_closure a i rules env g b c ev eb en ei e k) d = absurd (let x = sym d ∙ e in cc)
+
+  -- a list is a tag, or a pair of its head and its tail
+  pub a_list : (x : Tree) (v : Value) → HasTy p t sig v (list_ty x) → ((k : ℕ) × (v ≡ Tag k)) ⊎ ((a : Address) × (w : Value) × (v ≡ At a) × (slice_get bs a ≡ Some (Applied 1 w)) × HasTy p t sig w (tuple (x ∷ list_ty x ∷ [])))
+  a_list x v h = a_list_by x v (list_ty x) (view v (list_ty x) h) refl
