@@ -9,3 +9,4 @@ pub mod Matching
 pub mod Rows
 pub mod Plain
 pub mod Safe
+pub mod NeverStuck
