@@ -1,0 +1,12 @@
+pub mod Families
+pub mod Tables
+pub mod Grow
+pub mod Names
+pub mod Values
+pub mod Options
+pub mod Environments
+pub mod Matching
+pub mod Rows
+pub mod Plain
+pub mod Safe
+pub mod NeverStuck

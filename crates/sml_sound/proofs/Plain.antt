@@ -1,0 +1,161 @@
+-- What a non-expansive node is made of, and what is new in a program's datatypes.
+use Rattle.std.proofs.Common.{◌≡◌, ◌≢◌, ◌<◌, ℕ, arith, ⊎_elim, zero, suc, Bool, true, false, List, [], ◌∷◌, ◌++◌, length, Option, Some, None, refl, sym, ap, ◌∙◌, subst}
+use Rattle.std.specs.Prelude.{slice_get, flat_map, map, nat_eq, cond, ◌||◌, ◌+◌}
+use Rattle.std.specs.Option.{is_some}
+use Rattle.std.proofs.lemmas.Bool.{eqb-true, eq-eqb}
+use Rattle.sml_tree.specs.declared.bare.Bare.{Bare}
+use Rattle.sml_tree.specs.declared.bare.Node.{Node}
+use Rattle.sml_tree.specs.declared.bare.Node.TheVariants as node
+use Rattle.sml_tree.specs.declared.bare.Con.{Con}
+use Rattle.sml_tree.specs.declared.bare.Field.{Field}
+use Rattle.sml_tree.specs.declared.bare.DatBinding.{DatBinding}
+use Rattle.sml_tree.specs.IsBare.{cons_of, declared_by}
+use Rattle.sml_tree.proofs.Members.{or_right}
+use Rattle.simulation.proofs.Lists.{get_split}
+use Rattle.sml_types.specs.declared.types.Ty.{Ty}
+use Rattle.sml_types.specs.declared.types.TyVar.{TyVar}
+use Rattle.sml_types.specs.declared.tables.TypeName.{TypeName}
+use Rattle.sml_types.specs.declared.tables.Equality.TheVariants.{Never, Always, Parts}
+use Rattle.sml_types.specs.Tree.{Tree}
+use Rattle.sml_types.specs.Forms.{tree}
+use Rattle.sml_types.specs.Poly.{is_in}
+use Rattle.sml_types.specs.Library.{arg_of, ref_number}
+use Rattle.sml_types.specs.Equality.{choose, IsGreatest}
+use Rattle.sml_types.specs.NonExpansive.{AreNonExpansive, is_atomic, is_ref, field_nodes, plain_none, plain_atom, plain_record, plain_applied, plain_typed}
+use Rattle.sml_types.specs.Typing.{Typing, IsTyping, type_numbers}
+use Rattle.sml_sound.specs.NeverStuck.{Covers, AreCovered}
+use Rattle.sml_sound.specs.TypedStates.{IsCon}
+use Rattle.sml_sound.proofs.Tables.{row_at}
+
+abbrev pub is_plain : Node → Bool
+is_plain (node.Case e rules) = false
+is_plain (node.Raise e) = false
+is_plain (node.Handle e rules) = false
+is_plain (node.Let d e) = false
+is_plain node.Finish = false
+is_plain _ = true
+
+atom_plain : (n : Node) → is_atomic n ≡ true → is_plain n ≡ true
+atom_plain (node.Case e rules) h = cc
+atom_plain (node.Raise e) h = cc
+atom_plain (node.Handle e rules) h = cc
+atom_plain (node.Let d e) h = cc
+atom_plain node.Finish h = cc
+atom_plain _ h = refl
+
+module _ (nodes : List Node) where
+  one_node : (i : ℕ) (m n : Node) → slice_get nodes i ≡ Some m → slice_get nodes i ≡ Some n → m ≡ n
+  one_node i m n e f = cc
+
+  pub expansive : (i : ℕ) (q : Node) → slice_get nodes i ≡ Some q → is_plain q ≡ false → AreNonExpansive nodes (i ∷ []) → ⊥
+  expansive i q e h (plain_atom j n a b r) =
+      let same = one_node i n q a e in let x : true ≡ false = sym (atom_plain n b) ∙ ap is_plain same ∙ h in cc
+  expansive i q e h (plain_record j fields a b r) =
+      let same = one_node i (node.Record fields) q a e in let x : true ≡ false = ap is_plain same ∙ h in cc
+  expansive i q e h (plain_applied j f x c a b d k r) =
+      let same = one_node i (node.App f x) q a e in let x : true ≡ false = ap is_plain same ∙ h in cc
+  expansive i q e h (plain_typed j x ty a b r) =
+      let same = one_node i (node.Typed x ty) q a e in let x : true ≡ false = ap is_plain same ∙ h in cc
+
+  pub plain_fields : (i : ℕ) (fields : List Field) → slice_get nodes i ≡ Some (node.Record fields) → AreNonExpansive nodes (i ∷ []) → AreNonExpansive nodes (field_nodes fields)
+  plain_fields i fields e (plain_atom j n a b r) =
+      let same = one_node i n (node.Record fields) a e in let x : true ≡ false = sym b ∙ ap is_atomic same in cc
+  plain_fields i fields e (plain_record j gs a b r) =
+      let same = one_node i (node.Record gs) (node.Record fields) a e in
+      let inner : gs ≡ fields = cc in subst (λ fs. AreNonExpansive nodes (field_nodes fs)) inner b
+  plain_fields i fields e (plain_applied j f x c a b d k r) =
+      let same = one_node i (node.App f x) (node.Record fields) a e in cc
+  plain_fields i fields e (plain_typed j x ty a b r) =
+      let same = one_node i (node.Typed x ty) (node.Record fields) a e in cc
+
+  pub plain_app : (i f a : ℕ) → slice_get nodes i ≡ Some (node.App f a) → AreNonExpansive nodes (i ∷ []) → (c : Con) × (slice_get nodes f ≡ Some (node.Constructor c)) × (is_ref c ≡ false) × AreNonExpansive nodes (a ∷ [])
+  plain_app i f a e (plain_atom j n g b r) =
+      let same = one_node i n (node.App f a) g e in let x : true ≡ false = sym b ∙ ap is_atomic same in cc
+  plain_app i f a e (plain_record j gs g b r) =
+      let same = one_node i (node.Record gs) (node.App f a) g e in cc
+  plain_app i f a e (plain_applied j f2 a2 c g b d k r) =
+      let same = one_node i (node.App f2 a2) (node.App f a) g e in
+      let ef : f2 ≡ f = cc in
+      let ea : a2 ≡ a = cc in
+      (c, subst (λ f. slice_get nodes f ≡ Some (node.Constructor c)) ef b, d, subst (λ a. AreNonExpansive nodes (a ∷ [])) ea k)
+  plain_app i f a e (plain_typed j x ty g b r) =
+      let same = one_node i (node.Typed x ty) (node.App f a) g e in cc
+
+  pub plain_under : (i x ty : ℕ) → slice_get nodes i ≡ Some (node.Typed x ty) → AreNonExpansive nodes (i ∷ []) → AreNonExpansive nodes (x ∷ [])
+  plain_under i x ty e (plain_atom j n g b r) =
+      let same = one_node i n (node.Typed x ty) g e in let y : true ≡ false = sym b ∙ ap is_atomic same in cc
+  plain_under i x ty e (plain_record j gs g b r) =
+      let same = one_node i (node.Record gs) (node.Typed x ty) g e in cc
+  plain_under i x ty e (plain_applied j f2 a2 c g b d k r) =
+      let same = one_node i (node.App f2 a2) (node.Typed x ty) g e in cc
+  plain_under i x ty e (plain_typed j x2 ty2 g b r) =
+      let same = one_node i (node.Typed x2 ty2) (node.Typed x ty) g e in
+      let ex : x2 ≡ x = cc in subst (λ x. AreNonExpansive nodes (x ∷ [])) ex b
+
+  -- the first of a list is non-expansive, and so are the others
+  pub plain_first : (i : ℕ) (is : List ℕ) → AreNonExpansive nodes (i ∷ is) → AreNonExpansive nodes (i ∷ []) × AreNonExpansive nodes is
+  plain_first i is (plain_atom j n g b r) = (plain_atom i n g b plain_none, r)
+  plain_first i is (plain_record j gs g b r) = (plain_record i gs g b plain_none, r)
+  plain_first i is (plain_applied j f2 a2 c g b d k r) = (plain_applied i f2 a2 c g b d k plain_none, r)
+  plain_first i is (plain_typed j x2 ty2 g b r) = (plain_typed i x2 ty2 g b plain_none, r)
+
+module _ (p : Bare) (t : Typing) where
+  pub con_covers : AreCovered t.forms t.names → (n k : ℕ) (ps : List TyVar) (a : Tree) → IsCon p t n k ps (Some a) → Covers ps a
+  con_covers h n k ps a c = go c.con.arg refl c.is
+    where
+      go : (o : Option Ty) → c.con.arg ≡ o → arg_of t.forms o ≡ Some a → Covers ps a
+      go None e d = cc
+      go (Some x) e d =
+          let same : tree t.forms x.0 ≡ a = cc in
+          subst (λ vs. Covers vs a) c.params (subst (Covers c.row.params) same (h n k c.row c.con x c.named c.numbered e))
+
+  -- ---- No datatype of the program is the library's `ref`
+
+  chosen_at : (group : List ℕ) (choice : ℕ → Bool) (k : ℕ) (names : List TypeName) (n : ℕ) (row : TypeName) → slice_get names n ≡ Some row → (s : TypeName) × (slice_get (choose group choice k names) n ≡ Some s) × (is_in group (k + n) ≡ true → s.eq ≡ cond (choice (k + n)) Parts Never)
+  chosen_at group choice k [] n row e = cc
+  chosen_at group choice k (x ∷ names) (suc n) row e =
+      let r = chosen_at group choice (suc k) names n row e in
+      let s : suc k + n ≡ k + suc n = omega arith in
+      (r.0, r.1, subst (λ m. is_in group m ≡ true → r.0.eq ≡ cond (choice m) Parts Never) s r.2)
+  chosen_at group choice k (x ∷ names) zero row e =
+      let s : k ≡ k + 0 = omega arith in
+      subst (λ m. (s : TypeName) × (Some (cond (is_in group k) (record { text = x.text; params = x.params; eq = cond (choice k) Parts Never; cons = x.cons }) x) ≡ Some s) × (is_in group m ≡ true → s.eq ≡ cond (choice m) Parts Never)) s
+      (cond (is_in group k) (record { text = x.text; params = x.params; eq = cond (choice k) Parts Never; cons = x.cons }) x, refl, (λ h. ap (λ (b : Bool). (cond b (record { text = x.text; params = x.params; eq = cond (choice k) Parts Never; cons = x.cons }) x).eq) h))
+
+  not_always : (b : Bool) → Always ≡ cond b Parts Never → ⊥
+  not_always true e = cc
+  not_always false e = cc
+
+  group_old : (lib : TypeName) (group : List ℕ) → slice_get t.names ref_number ≡ Some lib → lib.eq ≡ Always → IsGreatest t.forms t.names group → is_in group ref_number ≡ true → ⊥
+  group_old lib group e a h m =
+      let r = chosen_at group h.choice 0 t.names ref_number lib e in
+      let same : r.0 ≡ lib = (let x : Some r.0 ≡ Some lib = sym r.1 ∙ ap (λ ns. slice_get ns ref_number) h.chosen ∙ e in cc) in
+      not_always (h.choice ref_number) (sym a ∙ sym (ap (λ (s : TypeName). s.eq) same) ∙ r.2 m)
+
+  declares : (bindings : List DatBinding) (k : ℕ) (takes : Bool) → slice_get (flat_map (λ d. cond (nat_eq d.type_name ref_number) (map (λ c. is_some c.arg) d.cons) []) bindings) k ≡ Some takes → is_in (type_numbers bindings) ref_number ≡ true
+  declares [] k takes e = cc
+  declares (d ∷ bindings) k takes e = go (nat_eq d.type_name ref_number) refl e (declares bindings k takes)
+    where
+      go : (b : Bool) → nat_eq d.type_name ref_number ≡ b → slice_get (cond b (map (λ c. is_some c.arg) d.cons) [] ++ flat_map (λ d. cond (nat_eq d.type_name ref_number) (map (λ c. is_some c.arg) d.cons) []) bindings) k ≡ Some takes → (slice_get (flat_map (λ d. cond (nat_eq d.type_name ref_number) (map (λ c. is_some c.arg) d.cons) []) bindings) k ≡ Some takes → is_in (type_numbers bindings) ref_number ≡ true) → (nat_eq ref_number d.type_name || is_in (type_numbers bindings) ref_number) ≡ true
+      go true q h rest = ap (λ b. b || is_in (type_numbers bindings) ref_number) (eq-eqb ref_number d.type_name (sym (eqb-true d.type_name ref_number q)))
+      go false q h rest = or_right (nat_eq ref_number d.type_name) (is_in (type_numbers bindings) ref_number) (rest h)
+
+  none_declares : (nodes : List Node) → ((i : ℕ) (bindings : List DatBinding) → slice_get nodes i ≡ Some (node.Datatype bindings) → is_in (type_numbers bindings) ref_number ≡ true → ⊥) → (k : ℕ) (takes : Bool) → slice_get (flat_map (declared_by ref_number) nodes) k ≡ Some takes → ⊥
+  none_declares [] h k takes e = cc
+  none_declares (n ∷ nodes) h k takes e =
+      ⊎_elim (here n h) (λ s. none_declares nodes (λ i. h (suc i)) s.0 takes s.2) (get_split (declared_by ref_number n) (flat_map (declared_by ref_number) nodes) k takes e)
+    where
+      here : (n : Node) → ((i : ℕ) (bindings : List DatBinding) → slice_get (n ∷ nodes) i ≡ Some (node.Datatype bindings) → is_in (type_numbers bindings) ref_number ≡ true → ⊥) → slice_get (declared_by ref_number n) k ≡ Some takes → ⊥
+      here (node.Datatype bindings) h e = h 0 bindings refl (declares bindings k takes e)
+      here _ h e = cc
+
+  get_lt : {A : Type 0} (xs : List A) (i : ℕ) (x : A) → slice_get xs i ≡ Some x → i < length xs
+  get_lt [] i x e = cc
+  get_lt (y ∷ xs) zero x e = omega arith
+  get_lt (y ∷ xs) (suc i) x e = let h = get_lt xs i x e in omega arith
+
+  -- a constructor that stands is none of the library's `ref`
+  pub new_con : IsTyping p t → (n k : ℕ) (takes : Bool) → slice_get (cons_of p.nodes n) k ≡ Some takes → n ≢ ref_number
+  new_con typing n k takes e same =
+      let lib = row_at p t typing.library ref_number _ refl in
+      none_declares p.nodes (λ i bindings g m. let r = typing.rules i (node.Datatype bindings) (get_lt p.nodes i (node.Datatype bindings) g) g in group_old lib.0 (type_numbers bindings) lib.1 (ap (λ r. r.eq) lib.2) r.1 m) k takes (subst (λ n. slice_get (cons_of p.nodes n) k ≡ Some takes) same e)

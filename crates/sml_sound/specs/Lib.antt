@@ -1,0 +1,2 @@
+pub mod NeverStuck
+pub mod TypedStates
