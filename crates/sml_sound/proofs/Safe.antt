@@ -2,7 +2,7 @@
 use Rattle.sml_sound.proofs.Values.{a_list}
 use Rattle.sml_def.specs.Builtin.{assign}
 use Rattle.std.specs.Prelude.{set}
-use Rattle.simulation.specs.Stores.{replaced, Put}
+use Rattle.simulation.specs.Stores.{replaced}
 use Rattle.sml_sound.specs.TypedStates.{InFamily}
 use Rattle.sml_def.specs.Match.{applied_block, tuple_block}
 use Rattle.simulation.proofs.Lists.{get_last}
@@ -10,13 +10,13 @@ use Rattle.sml_types.proofs.TreeFacts.{inst_id}
 use Rattle.sml_sound.proofs.Values.{an_int, a_char, a_string, an_exn, a_stream, a_record, a_ref}
 use Rattle.sml_sound.proofs.Grow.{store_get, compared_up, store_set}
 use Rattle.sml_sound.proofs.Families.{only}
-use Rattle.sml_sound.specs.TypedStates.{Compares, AreCompared, IsApplied, IsTuple, IsName, EntryTy}
+use Rattle.sml_sound.specs.TypedStates.{Compares, AreCompared, IsApplied, IsName, EntryTy}
 use Rattle.sml_types.specs.Library.{bool_ty, list_ty, option_ty, order_ty, instream_ty, labels_from}
-use Rattle.sml_def.specs.Memory.{writing, assigning}
+use Rattle.sml_def.specs.Memory.{writing}
 use Rattle.sml_def.specs.State.{Applied, Text, Cell, Packet, Pending, Eq, End, Normal, Uncaught, truth, Ending}
 use Rattle.sml_def.specs.Step.{apply, apply_block, uncaught, compare, step, exn_name, name_of}
 use Rattle.sml_def.specs.Match.{bytes_of, fields_of as tuple_of, block_of, cell_block}
-use Rattle.sml_def.specs.Builtin.{int_result, divided, is_int, floor_div, floor_mod, on_two, on_three, on_fields, builtin, start_compare, is_deep, order_of, letters, sub_result, part_of, text_result, read_line, decided, compare_values, Verdict, Equal, Unequal, AsPairs, by_verdict, pend, behind_line, line_of, pair_of, letter_of}
+use Rattle.sml_def.specs.Builtin.{int_result, divided, is_int, floor_div, floor_mod, on_two, on_three, on_fields, builtin, start_compare, is_deep, order_of, letters, sub_result, part_of, text_result, read_line, decided, compare_values, Verdict, Equal, Unequal, AsPairs, by_verdict, pend, line_of, pair_of, letter_of}
 use Rattle.smlc_base.specs.declared.primitive.Primitive.TheVariants as prim
 use Rattle.smlc_base.specs.declared.primitive.Primitive.{Primitive}
 use Rattle.std.specs.Prelude.{ℤ, pos, negsuc, ◌+ℤ◌, ◌-ℤ◌, ◌*ℤ◌, neg_ℤ, unsigned_abs, int_lt, int_le, if◌then◌else◌, nat_lt, nat_eq, take, drop, not}
@@ -24,7 +24,6 @@ use Rattle.sml_tree.specs.BareParts.{node_parts}
 use Rattle.sml_tree.specs.declared.bare.Lab.{Lab}
 use Rattle.sml_types.specs.Library.{parts}
 use Rattle.sml_tree.specs.declared.bare.LibraryExn.{LibraryExn}
-use Rattle.sml_types.specs.TypeExps.{Labelled}
 use Rattle.sml_types.specs.Library.{exn_ty, tuple}
 use Rattle.sml_types.specs.Poly.{is_in}
 use Rattle.sml_sound.proofs.Values.{exn_con}
@@ -32,7 +31,7 @@ use Rattle.sml_sound.proofs.Families.{at_in}
 use Rattle.sml_sound.specs.TypedStates.{ApplyTy, AreRules, AreBindings, BlockTy, FrameTy}
 use Rattle.sml_def.specs.State.{Raise, Apply, FieldPart, ArgumentPart, RightSide}
 use Rattle.sml_def.specs.Builtin.{raising}
-use Rattle.sml_def.specs.Step.{eval_dec, eval, eval_record, eval_fields, declare, env_of_match, env_of_fields, env_of_rest, resume, ret, bind, raised, raised_to, by_rule}
+use Rattle.sml_def.specs.Step.{eval_dec, eval, eval_fields, declare, env_of_match, env_of_fields, env_of_rest, resume, ret, bind, raised, raised_to, by_rule}
 use Rattle.sml_tree.specs.declared.bare.LibraryExn.TheVariants as exn
 use Rattle.sml_sound.specs.TypedStates.{Names}
 use Rattle.std.proofs.Common.{zero, append_assoc, length-append, ⊎_elim}
@@ -52,21 +51,21 @@ use Rattle.sml_sound.proofs.Matching.{exn_value}
 use Rattle.sml_sound.proofs.Plain.{is_plain, expansive, plain_fields, plain_app, plain_under, con_covers, new_con}
 use Rattle.sml_sound.proofs.Tables.{data_takes, data_plain, con_same, library_con}
 use Rattle.sml_sound.proofs.Families.{library_closed, inst_all, single}
-use Rattle.sml_sound.specs.TypedStates.{IsMaker, IsExnCon, Making, IsMaking, IsCon, data_ty}
+use Rattle.sml_sound.specs.TypedStates.{IsMaker, IsExnCon, IsMaking, data_ty}
 use Rattle.sml_types.proofs.TreeFacts.{inst_inst}
 use Rattle.sml_types.specs.NonExpansive.{is_ref, plain_atom, plain_none}
 use Rattle.sml_types.specs.TypeExps.{IsRecord}
-use Rattle.sml_types.specs.Typing.{IsConPoly, HasConTy, IsDataPoly, IsExnArgument, IsExnTy, is_exception, group_names, variables, fields_of, made_by}
-use Rattle.sml_types.specs.Library.{library_exn, arrow, unit_ty, int_ty, char_ty, string_ty, ref_ty, ref_number, name_ty, primitive_poly}
+use Rattle.sml_types.specs.Typing.{IsConPoly, HasConTy, IsExnArgument, is_exception, group_names, fields_of}
+use Rattle.sml_types.specs.Library.{library_exn, arrow, unit_ty, int_ty, char_ty, string_ty, ref_ty, ref_number, primitive_poly}
 use Rattle.sml_def.specs.State.{ExnName, Library, Closure, FunctionPart, Subject, RaisePart, Guarded, Maker, RefMaker, Tag, Number, Letter, Nothing, Constant, Builtin}
 use Rattle.sml_def.specs.Match.{con_value}
-use Rattle.sml_def.specs.Step.{eval_dec, eval, eval_record, env_of_match}
+use Rattle.sml_def.specs.Step.{eval_dec, eval, env_of_match}
 use Rattle.sml_tree.proofs.Members.{within_each}
 use Rattle.sml_tree.proofs.FreeParts.{binds_unfold}
-use Rattle.sml_tree.specs.IsBare.{Sort, Declaration, Pattern, sort_of, HasSorts, Stands, ConStands}
-use Rattle.sml_tree.specs.Free.{binds_of, free_of, free_match, exception_of, bound_by as tree_bound_by}
+use Rattle.sml_tree.specs.IsBare.{Declaration, Pattern, sort_of, HasSorts, Stands}
+use Rattle.sml_tree.specs.Free.{binds_of, free_of, exception_of}
 use Rattle.std.specs.Prelude.{cond}
-use Rattle.sml_types.specs.Poly.{poly, IsInstance, mono, scheme_in, is_in, with_own, with_type_names}
+use Rattle.sml_types.specs.Poly.{poly, IsInstance, mono, is_in, with_own}
 use Rattle.sml_sound.proofs.Names.{rule_at, sorts_at, at_all}
 use Rattle.std.proofs.Common.{◌≡◌, ℕ, suc, ◌+◌, ◌<◌, Bool, true, false, List, [], ◌∷◌, ◌++◌, length, Option, Some, None, refl, sym, ap, ◌∙◌, subst, arith, ◌⊎◌, inl, inr}
 use Rattle.std.specs.Prelude.{IfSome, slice_get, map, flat_map, nat_eq, ◌||◌}
@@ -85,7 +84,7 @@ use Rattle.sml_tree.specs.BareParts.{rule_parts, within, at_node}
 use Rattle.sml_tree.specs.Free.{free, binds, free_fields, scoped, names_of}
 use Rattle.sml_tree.specs.IsBare.{function_of as bare_function_of}
 use Rattle.sml_tree.specs.IsBare.{is_function, IsBare, IsOf, Expression, HasRules}
-use Rattle.sml_tree.proofs.Members.{IsWithin, within_left, within_right, within_head, within_tail, within_rest, within_both, in_or_not, either, has-union}
+use Rattle.sml_tree.proofs.Members.{IsWithin, within_left, within_right, within_head, within_tail, within_rest, within_both, either, has-union}
 use Rattle.sml_types.proofs.TreeFacts.{or_none}
 use Rattle.std.proofs.lemmas.List.Folds.{list_any-append}
 use Rattle.sml_types.specs.declared.types.TyVar.{TyVar}
@@ -108,7 +107,7 @@ use Rattle.sml_sound.proofs.Grow.{store_up, block_up, store_len, store_append, e
 use Rattle.sml_sound.proofs.Names.{free_known, get_lt}
 use Rattle.sml_sound.proofs.Rows.{row_ty}
 use Rattle.sml_sound.proofs.Plain.{plain_first}
-use Rattle.sml_sound.proofs.Environments.{env_cut, env_same, env_within, look_front, look_back, look_all, at_name, AreFresh, env_spread, joined}
+use Rattle.sml_sound.proofs.Environments.{env_cut, env_same, env_within, look_all, at_name, AreFresh, env_spread, joined}
 use Rattle.sml_sound.proofs.Matching.{Bound, fits_ty}
 use Rattle.sml_sound.proofs.Options.{or_some, if_some}
 
