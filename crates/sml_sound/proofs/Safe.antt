@@ -338,8 +338,7 @@ module _ (p : Bare) (t : Typing) (typing : IsTyping p t) (bare : IsBare p) (cove
       let rights = union_over (λ b. free p.nodes b.right) (b ∷ later) in
       let rest = without (free p.nodes body) (union_over (λ b. binds p.nodes b.pat) (b ∷ later)) in
       let own = free p.nodes b.right in
-      awaiting_safe (RightSide b later body (env_of_rest p b later body env)) k b.right (env_of p b.right env) f false
-      (
+      awaiting_safe (RightSide b later body (env_of_rest p b later body env)) k b.right (env_of p b.right env) f false (
         refl,
         refl,
         refl,
@@ -438,7 +437,7 @@ module _ (p : Bare) (t : Typing) (typing : IsTyping p t) (bare : IsBare p) (cove
       go true n rest = (At a, ap (λ q. cond q (Some (At a)) (look (group_env p (suc a) bs) x)) n)
       go false n rest =
           let m : has (names_of bs) x ≡ true =
-              either (has (b.name.0 ∷ []) x) (has (names_of bs) x) (has (names_of bs) x ≡ true) (sym (has-union (b.name.0 ∷ []) (names_of bs) x) ∙ h) (λ k. let z : (nat_eq x b.name.0 || false) ≡ true = k in let w : (false || false) ≡ true = ap (λ q. q || false) (sym n) ∙ z in cc) (λ k. k) in
+          either (has (b.name.0 ∷ []) x) (has (names_of bs) x) (has (names_of bs) x ≡ true) (sym (has-union (b.name.0 ∷ []) (names_of bs) x) ∙ h) (λ k. let z : (nat_eq x b.name.0 || false) ≡ true = k in let w : (false || false) ≡ true = ap (λ q. q || false) (sym n) ∙ z in cc) (λ k. k) in
           let v = rest m in (v.0, ap (λ q. cond q (Some (At a)) (look (group_env p (suc a) bs) x)) n ∙ v.1)
 
   -- the closures of a group
@@ -530,14 +529,14 @@ module _ (p : Bare) (t : Typing) (typing : IsTyping p t) (bare : IsBare p) (cove
       go [] r w = tt
       go (b ∷ cs) r w = (
         (λ j lt ec wj h agr.
-        let ys = without (free p.nodes j) (names_of bs) in
-        joined p t full h (names_of bs) ys (free p.nodes j) group env (hs h agr) hh
-        (env_spread p t full c gens g h ys env agr hf (λ z m.
-        let q = without_parts (free p.nodes j) (names_of bs) z m in
-        let in_inner : has (group_names bs ++ c.names) z ≡ true = subst (λ ns. has ns z ≡ true) hi (subst (λ (d : Context). has d.names z ≡ true) (ec ∙ r.0.0) (free_known p t typing bare.numbered bare.sorts j lt z q.0)) in
-        either (has (group_names bs) z) (has c.names z) (has c.names z ≡ true) (sym (list_any-append (nat_eq z) (group_names bs) c.names) ∙ in_inner) (λ a. absurd (not_group bs z q.1 a)) (λ a. a))
-        (env_within p t full g ys (without frees (names_of bs)) env (λ z m. let q = without_parts (free p.nodes j) (names_of bs) z m in within_rest frees (names_of bs) z (w z (within_head (λ (b : RecBinding). free p.nodes b.right) b cs z (wj z q.0))) q.1) he))
-        (λ z a b. within_rest (free p.nodes j) (names_of bs) z a b)),
+            let ys = without (free p.nodes j) (names_of bs) in
+            joined p t full h (names_of bs) ys (free p.nodes j) group env (hs h agr) hh
+            (env_spread p t full c gens g h ys env agr hf (λ z m.
+            let q = without_parts (free p.nodes j) (names_of bs) z m in
+            let in_inner : has (group_names bs ++ c.names) z ≡ true = subst (λ ns. has ns z ≡ true) hi (subst (λ (d : Context). has d.names z ≡ true) (ec ∙ r.0.0) (free_known p t typing bare.numbered bare.sorts j lt z q.0)) in
+            either (has (group_names bs) z) (has c.names z) (has c.names z ≡ true) (sym (list_any-append (nat_eq z) (group_names bs) c.names) ∙ in_inner) (λ a. absurd (not_group bs z q.1 a)) (λ a. a))
+            (env_within p t full g ys (without frees (names_of bs)) env (λ z m. let q = without_parts (free p.nodes j) (names_of bs) z m in within_rest frees (names_of bs) z (w z (within_head (λ (b : RecBinding). free p.nodes b.right) b cs z (wj z q.0))) q.1) he))
+            (λ z a b. within_rest (free p.nodes j) (names_of bs) z a b)),
         go cs r.1 (λ z m. w z (within_tail (λ (b : RecBinding). free p.nodes b.right) b cs z m)),
       )
 
@@ -1074,11 +1073,12 @@ module _ (p : Bare) (t : Typing) (typing : IsTyping p t) (bare : IsBare p) (cove
           let tail = λ (pair : Value × Value). letter_of pair.0 >>= λ c. letters n m.store pair.1 >>= λ cs. Some (c ∷ cs) in (
             c.0 ∷ ih.0,
             ap (letters (suc n) m.store) ev
-            ∙ ap (λ o. applied_block 1 o >>= λ cell. tuple_of m.store cell >>= λ fields. pair_of fields >>= tail) eb
-            ∙ ap (λ o. o >>= λ fields. pair_of fields >>= tail) q.2
-            ∙ ap (λ x. letter_of x >>= λ c. letters n m.store q.1 >>= λ cs. Some (c ∷ cs)) c.1
-            ∙ ap (λ o. o >>= λ cs. Some (c.0 ∷ cs)) ih.1,
+                ∙ ap (λ o. applied_block 1 o >>= λ cell. tuple_of m.store cell >>= λ fields. pair_of fields >>= tail) eb
+                ∙ ap (λ o. o >>= λ fields. pair_of fields >>= tail) q.2
+                ∙ ap (λ x. letter_of x >>= λ c. letters n m.store q.1 >>= λ cs. Some (c ∷ cs)) c.1
+                ∙ ap (λ o. o >>= λ cs. Some (c.0 ∷ cs)) ih.1,
           )
+
   -- ---- A primitive on its argument
 
   builtin_safe : (f : Primitive) (v : Value) (k : Option Address) (g : TyVar → Tree) (a b : Tree) → arrow a b ≡ inst g (primitive_poly f).body → HasTy p t sig v a → Takes1 k b → Safe p t m.store (builtin p m k f v)
