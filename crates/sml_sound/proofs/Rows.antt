@@ -134,8 +134,8 @@ module _ (p : Bare) (t : Typing) (sig : List Entry) (g : TyVar → Tree) where
         v,
         ap (λ c. cond c (Some v) (look (zip (slots fields) vs) k)) e,
         (λ u eu.
-        let x : Some (inst g (t.types f.node)) ≡ Some u = sym q.0 ∙ ap (slice_get us) (sym (eqb-true k f.slot e)) ∙ eu in
-        let same : inst g (t.types f.node) ≡ u = cc in subst (HasTy p t sig v) same b.0),
+            let x : Some (inst g (t.types f.node)) ≡ Some u = sym q.0 ∙ ap (slice_get us) (sym (eqb-true k f.slot e)) ∙ eu in
+            let same : inst g (t.types f.node) ≡ u = cc in subst (HasTy p t sig v) same b.0),
       )
       go false e m rest =
           let r = rest m in (r.0, ap (λ c. cond c (Some v) (look (zip (slots fields) vs) k)) e ∙ r.1, r.2)

@@ -2,7 +2,7 @@
 use Rattle.sml_sound.proofs.Values.{a_list}
 use Rattle.sml_def.specs.Builtin.{assign}
 use Rattle.std.specs.Prelude.{set}
-use Rattle.simulation.specs.Stores.{replaced, Put}
+use Rattle.simulation.specs.Stores.{replaced}
 use Rattle.sml_sound.specs.TypedStates.{InFamily}
 use Rattle.sml_def.specs.Match.{applied_block, tuple_block}
 use Rattle.simulation.proofs.Lists.{get_last}
@@ -10,13 +10,13 @@ use Rattle.sml_types.proofs.TreeFacts.{inst_id}
 use Rattle.sml_sound.proofs.Values.{an_int, a_char, a_string, an_exn, a_stream, a_record, a_ref}
 use Rattle.sml_sound.proofs.Grow.{store_get, compared_up, store_set}
 use Rattle.sml_sound.proofs.Families.{only}
-use Rattle.sml_sound.specs.TypedStates.{Compares, AreCompared, IsApplied, IsTuple, IsName, EntryTy}
+use Rattle.sml_sound.specs.TypedStates.{Compares, AreCompared, IsApplied, IsName, EntryTy}
 use Rattle.sml_types.specs.Library.{bool_ty, list_ty, option_ty, order_ty, instream_ty, labels_from}
-use Rattle.sml_def.specs.Memory.{writing, assigning}
+use Rattle.sml_def.specs.Memory.{writing}
 use Rattle.sml_def.specs.State.{Applied, Text, Cell, Packet, Pending, Eq, End, Normal, Uncaught, truth, Ending}
 use Rattle.sml_def.specs.Step.{apply, apply_block, uncaught, compare, step, exn_name, name_of}
 use Rattle.sml_def.specs.Match.{bytes_of, fields_of as tuple_of, block_of, cell_block}
-use Rattle.sml_def.specs.Builtin.{int_result, divided, is_int, floor_div, floor_mod, on_two, on_three, on_fields, builtin, start_compare, is_deep, order_of, letters, sub_result, part_of, text_result, read_line, decided, compare_values, Verdict, Equal, Unequal, AsPairs, by_verdict, pend, behind_line, line_of, pair_of, letter_of}
+use Rattle.sml_def.specs.Builtin.{int_result, divided, is_int, floor_div, floor_mod, on_two, on_three, on_fields, builtin, start_compare, is_deep, order_of, letters, sub_result, part_of, text_result, read_line, decided, compare_values, Verdict, Equal, Unequal, AsPairs, by_verdict, pend, line_of, pair_of, letter_of}
 use Rattle.smlc_base.specs.declared.primitive.Primitive.TheVariants as prim
 use Rattle.smlc_base.specs.declared.primitive.Primitive.{Primitive}
 use Rattle.std.specs.Prelude.{ℤ, pos, negsuc, ◌+ℤ◌, ◌-ℤ◌, ◌*ℤ◌, neg_ℤ, unsigned_abs, int_lt, int_le, if◌then◌else◌, nat_lt, nat_eq, take, drop, not}
@@ -24,7 +24,6 @@ use Rattle.sml_tree.specs.BareParts.{node_parts}
 use Rattle.sml_tree.specs.declared.bare.Lab.{Lab}
 use Rattle.sml_types.specs.Library.{parts}
 use Rattle.sml_tree.specs.declared.bare.LibraryExn.{LibraryExn}
-use Rattle.sml_types.specs.TypeExps.{Labelled}
 use Rattle.sml_types.specs.Library.{exn_ty, tuple}
 use Rattle.sml_types.specs.Poly.{is_in}
 use Rattle.sml_sound.proofs.Values.{exn_con}
@@ -32,7 +31,7 @@ use Rattle.sml_sound.proofs.Families.{at_in}
 use Rattle.sml_sound.specs.TypedStates.{ApplyTy, AreRules, AreBindings, BlockTy, FrameTy}
 use Rattle.sml_def.specs.State.{Raise, Apply, FieldPart, ArgumentPart, RightSide}
 use Rattle.sml_def.specs.Builtin.{raising}
-use Rattle.sml_def.specs.Step.{eval_dec, eval, eval_record, eval_fields, declare, env_of_match, env_of_fields, env_of_rest, resume, ret, bind, raised, raised_to, by_rule}
+use Rattle.sml_def.specs.Step.{eval_dec, eval, eval_fields, declare, env_of_match, env_of_fields, env_of_rest, resume, ret, bind, raised, raised_to, by_rule}
 use Rattle.sml_tree.specs.declared.bare.LibraryExn.TheVariants as exn
 use Rattle.sml_sound.specs.TypedStates.{Names}
 use Rattle.std.proofs.Common.{zero, append_assoc, length-append, ⊎_elim}
@@ -52,21 +51,21 @@ use Rattle.sml_sound.proofs.Matching.{exn_value}
 use Rattle.sml_sound.proofs.Plain.{is_plain, expansive, plain_fields, plain_app, plain_under, con_covers, new_con}
 use Rattle.sml_sound.proofs.Tables.{data_takes, data_plain, con_same, library_con}
 use Rattle.sml_sound.proofs.Families.{library_closed, inst_all, single}
-use Rattle.sml_sound.specs.TypedStates.{IsMaker, IsExnCon, Making, IsMaking, IsCon, data_ty}
+use Rattle.sml_sound.specs.TypedStates.{IsMaker, IsExnCon, IsMaking, data_ty}
 use Rattle.sml_types.proofs.TreeFacts.{inst_inst}
 use Rattle.sml_types.specs.NonExpansive.{is_ref, plain_atom, plain_none}
 use Rattle.sml_types.specs.TypeExps.{IsRecord}
-use Rattle.sml_types.specs.Typing.{IsConPoly, HasConTy, IsDataPoly, IsExnArgument, IsExnTy, is_exception, group_names, variables, fields_of, made_by}
-use Rattle.sml_types.specs.Library.{library_exn, arrow, unit_ty, int_ty, char_ty, string_ty, ref_ty, ref_number, name_ty, primitive_poly}
+use Rattle.sml_types.specs.Typing.{IsConPoly, HasConTy, IsExnArgument, is_exception, group_names, fields_of}
+use Rattle.sml_types.specs.Library.{library_exn, arrow, unit_ty, int_ty, char_ty, string_ty, ref_ty, ref_number, primitive_poly}
 use Rattle.sml_def.specs.State.{ExnName, Library, Closure, FunctionPart, Subject, RaisePart, Guarded, Maker, RefMaker, Tag, Number, Letter, Nothing, Constant, Builtin}
 use Rattle.sml_def.specs.Match.{con_value}
-use Rattle.sml_def.specs.Step.{eval_dec, eval, eval_record, env_of_match}
+use Rattle.sml_def.specs.Step.{eval_dec, eval, env_of_match}
 use Rattle.sml_tree.proofs.Members.{within_each}
 use Rattle.sml_tree.proofs.FreeParts.{binds_unfold}
-use Rattle.sml_tree.specs.IsBare.{Sort, Declaration, Pattern, sort_of, HasSorts, Stands, ConStands}
-use Rattle.sml_tree.specs.Free.{binds_of, free_of, free_match, exception_of, bound_by as tree_bound_by}
+use Rattle.sml_tree.specs.IsBare.{Declaration, Pattern, sort_of, HasSorts, Stands}
+use Rattle.sml_tree.specs.Free.{binds_of, free_of, exception_of}
 use Rattle.std.specs.Prelude.{cond}
-use Rattle.sml_types.specs.Poly.{poly, IsInstance, mono, scheme_in, is_in, with_own, with_type_names}
+use Rattle.sml_types.specs.Poly.{poly, IsInstance, mono, is_in, with_own}
 use Rattle.sml_sound.proofs.Names.{rule_at, sorts_at, at_all}
 use Rattle.std.proofs.Common.{◌≡◌, ℕ, suc, ◌+◌, ◌<◌, Bool, true, false, List, [], ◌∷◌, ◌++◌, length, Option, Some, None, refl, sym, ap, ◌∙◌, subst, arith, ◌⊎◌, inl, inr}
 use Rattle.std.specs.Prelude.{IfSome, slice_get, map, flat_map, nat_eq, ◌||◌}
@@ -85,7 +84,7 @@ use Rattle.sml_tree.specs.BareParts.{rule_parts, within, at_node}
 use Rattle.sml_tree.specs.Free.{free, binds, free_fields, scoped, names_of}
 use Rattle.sml_tree.specs.IsBare.{function_of as bare_function_of}
 use Rattle.sml_tree.specs.IsBare.{is_function, IsBare, IsOf, Expression, HasRules}
-use Rattle.sml_tree.proofs.Members.{IsWithin, within_left, within_right, within_head, within_tail, within_rest, within_both, in_or_not, either, has-union}
+use Rattle.sml_tree.proofs.Members.{IsWithin, within_left, within_right, within_head, within_tail, within_rest, within_both, either, has-union}
 use Rattle.sml_types.proofs.TreeFacts.{or_none}
 use Rattle.std.proofs.lemmas.List.Folds.{list_any-append}
 use Rattle.sml_types.specs.declared.types.TyVar.{TyVar}
@@ -108,7 +107,7 @@ use Rattle.sml_sound.proofs.Grow.{store_up, block_up, store_len, store_append, e
 use Rattle.sml_sound.proofs.Names.{free_known, get_lt}
 use Rattle.sml_sound.proofs.Rows.{row_ty}
 use Rattle.sml_sound.proofs.Plain.{plain_first}
-use Rattle.sml_sound.proofs.Environments.{env_cut, env_same, env_within, look_front, look_back, look_all, at_name, AreFresh, env_spread, joined}
+use Rattle.sml_sound.proofs.Environments.{env_cut, env_same, env_within, look_all, at_name, AreFresh, env_spread, joined}
 use Rattle.sml_sound.proofs.Matching.{Bound, fits_ty}
 use Rattle.sml_sound.proofs.Options.{or_some, if_some}
 
@@ -339,8 +338,7 @@ module _ (p : Bare) (t : Typing) (typing : IsTyping p t) (bare : IsBare p) (cove
       let rights = union_over (λ b. free p.nodes b.right) (b ∷ later) in
       let rest = without (free p.nodes body) (union_over (λ b. binds p.nodes b.pat) (b ∷ later)) in
       let own = free p.nodes b.right in
-      awaiting_safe (RightSide b later body (env_of_rest p b later body env)) k b.right (env_of p b.right env) f false
-      (
+      awaiting_safe (RightSide b later body (env_of_rest p b later body env)) k b.right (env_of p b.right env) f false (
         refl,
         refl,
         refl,
@@ -439,7 +437,7 @@ module _ (p : Bare) (t : Typing) (typing : IsTyping p t) (bare : IsBare p) (cove
       go true n rest = (At a, ap (λ q. cond q (Some (At a)) (look (group_env p (suc a) bs) x)) n)
       go false n rest =
           let m : has (names_of bs) x ≡ true =
-              either (has (b.name.0 ∷ []) x) (has (names_of bs) x) (has (names_of bs) x ≡ true) (sym (has-union (b.name.0 ∷ []) (names_of bs) x) ∙ h) (λ k. let z : (nat_eq x b.name.0 || false) ≡ true = k in let w : (false || false) ≡ true = ap (λ q. q || false) (sym n) ∙ z in cc) (λ k. k) in
+          either (has (b.name.0 ∷ []) x) (has (names_of bs) x) (has (names_of bs) x ≡ true) (sym (has-union (b.name.0 ∷ []) (names_of bs) x) ∙ h) (λ k. let z : (nat_eq x b.name.0 || false) ≡ true = k in let w : (false || false) ≡ true = ap (λ q. q || false) (sym n) ∙ z in cc) (λ k. k) in
           let v = rest m in (v.0, ap (λ q. cond q (Some (At a)) (look (group_env p (suc a) bs) x)) n ∙ v.1)
 
   -- the closures of a group
@@ -531,14 +529,14 @@ module _ (p : Bare) (t : Typing) (typing : IsTyping p t) (bare : IsBare p) (cove
       go [] r w = tt
       go (b ∷ cs) r w = (
         (λ j lt ec wj h agr.
-        let ys = without (free p.nodes j) (names_of bs) in
-        joined p t full h (names_of bs) ys (free p.nodes j) group env (hs h agr) hh
-        (env_spread p t full c gens g h ys env agr hf (λ z m.
-        let q = without_parts (free p.nodes j) (names_of bs) z m in
-        let in_inner : has (group_names bs ++ c.names) z ≡ true = subst (λ ns. has ns z ≡ true) hi (subst (λ (d : Context). has d.names z ≡ true) (ec ∙ r.0.0) (free_known p t typing bare.numbered bare.sorts j lt z q.0)) in
-        either (has (group_names bs) z) (has c.names z) (has c.names z ≡ true) (sym (list_any-append (nat_eq z) (group_names bs) c.names) ∙ in_inner) (λ a. absurd (not_group bs z q.1 a)) (λ a. a))
-        (env_within p t full g ys (without frees (names_of bs)) env (λ z m. let q = without_parts (free p.nodes j) (names_of bs) z m in within_rest frees (names_of bs) z (w z (within_head (λ (b : RecBinding). free p.nodes b.right) b cs z (wj z q.0))) q.1) he))
-        (λ z a b. within_rest (free p.nodes j) (names_of bs) z a b)),
+            let ys = without (free p.nodes j) (names_of bs) in
+            joined p t full h (names_of bs) ys (free p.nodes j) group env (hs h agr) hh
+            (env_spread p t full c gens g h ys env agr hf (λ z m.
+            let q = without_parts (free p.nodes j) (names_of bs) z m in
+            let in_inner : has (group_names bs ++ c.names) z ≡ true = subst (λ ns. has ns z ≡ true) hi (subst (λ (d : Context). has d.names z ≡ true) (ec ∙ r.0.0) (free_known p t typing bare.numbered bare.sorts j lt z q.0)) in
+            either (has (group_names bs) z) (has c.names z) (has c.names z ≡ true) (sym (list_any-append (nat_eq z) (group_names bs) c.names) ∙ in_inner) (λ a. absurd (not_group bs z q.1 a)) (λ a. a))
+            (env_within p t full g ys (without frees (names_of bs)) env (λ z m. let q = without_parts (free p.nodes j) (names_of bs) z m in within_rest frees (names_of bs) z (w z (within_head (λ (b : RecBinding). free p.nodes b.right) b cs z (wj z q.0))) q.1) he))
+            (λ z a b. within_rest (free p.nodes j) (names_of bs) z a b)),
         go cs r.1 (λ z m. w z (within_tail (λ (b : RecBinding). free p.nodes b.right) b cs z m)),
       )
 
@@ -1075,11 +1073,12 @@ module _ (p : Bare) (t : Typing) (typing : IsTyping p t) (bare : IsBare p) (cove
           let tail = λ (pair : Value × Value). letter_of pair.0 >>= λ c. letters n m.store pair.1 >>= λ cs. Some (c ∷ cs) in (
             c.0 ∷ ih.0,
             ap (letters (suc n) m.store) ev
-            ∙ ap (λ o. applied_block 1 o >>= λ cell. tuple_of m.store cell >>= λ fields. pair_of fields >>= tail) eb
-            ∙ ap (λ o. o >>= λ fields. pair_of fields >>= tail) q.2
-            ∙ ap (λ x. letter_of x >>= λ c. letters n m.store q.1 >>= λ cs. Some (c ∷ cs)) c.1
-            ∙ ap (λ o. o >>= λ cs. Some (c.0 ∷ cs)) ih.1,
+                ∙ ap (λ o. applied_block 1 o >>= λ cell. tuple_of m.store cell >>= λ fields. pair_of fields >>= tail) eb
+                ∙ ap (λ o. o >>= λ fields. pair_of fields >>= tail) q.2
+                ∙ ap (λ x. letter_of x >>= λ c. letters n m.store q.1 >>= λ cs. Some (c ∷ cs)) c.1
+                ∙ ap (λ o. o >>= λ cs. Some (c.0 ∷ cs)) ih.1,
           )
+
   -- ---- A primitive on its argument
 
   builtin_safe : (f : Primitive) (v : Value) (k : Option Address) (g : TyVar → Tree) (a b : Tree) → arrow a b ≡ inst g (primitive_poly f).body → HasTy p t sig v a → Takes1 k b → Safe p t m.store (builtin p m k f v)
