@@ -2,6 +2,7 @@
 use Rattle.std.proofs.Common.{◌≡◌, ℕ, zero, suc, ◌+◌, ◌<◌, ◌≤◌, true, false, List, [], ◌∷◌, ◌++◌, length, Some, refl, sym, ap, ◌∙◌, subst, arith}
 use Rattle.std.specs.Prelude.{slice_get, map, flat_map, nat_eq}
 use Rattle.std.specs.List.{AllByRecursion}
+use Rattle.std.specs.Option.{option_map}
 use Rattle.std.proofs.lemmas.List.Folds.{list_any-append}
 use Rattle.std.proofs.lemmas.Bool.{eqb-true, eq-eqb}
 use Rattle.sml_tree.specs.declared.bare.Bare.{Bare}
@@ -86,8 +87,11 @@ module _ (p : Bare) (t : Typing) (typing : IsTyping p t) (numbered : IsNumbered 
   abbrev Binds : ℕ → Type 0
   Binds c = (IsOf p.nodes Expression c → ⊥) → IsWithin (t.binds c) (binds p.nodes c)
 
+  sort_is : (s : Sort) (c : ℕ) (n : Node) → slice_get p.nodes c ≡ Some n → IsOf p.nodes s c → sort_of n ≡ s
+  sort_is s c n e h = let q : Some (sort_of n) ≡ Some s = ap (option_map sort_of) (sym e) ∙ h in cc
+
   is_not : (s : Sort) (c : ℕ) (n : Node) → slice_get p.nodes c ≡ Some n → IsOf p.nodes s c → (s ≡ Expression → ⊥) → IsOf p.nodes Expression c → ⊥
-  is_not s c n e h d g = d (sym (h n e) ∙ g n e)
+  is_not s c n e h d g = d (sym (sort_is s c n e h) ∙ sort_is Expression c n e g)
 
   -- a part of the sort of patterns binds
   of_pattern : (c : ℕ) → c < length p.nodes → IsOf p.nodes Pattern c → Binds c → IsWithin (t.binds c) (binds p.nodes c)
@@ -162,10 +166,10 @@ module _ (p : Bare) (t : Typing) (typing : IsTyping p t) (numbered : IsNumbered 
   bound_from zero i n e lt d = let h = get_lt p.nodes i n e in absurd (omega arith)
   bound_from (suc k) i n e lt d =
       subst (IsWithin (t.binds i)) (sym (binds_unfold p.nodes numbered i n e))
-      (node_bound (t.contexts i) (t.types i) (t.binds i) n (rule_at i n e) (sorts_at i n e) (parts_of Part i n e (λ c m g h. (get_lt p.nodes c m g, bound_from k c m g (omega (arith, h))))) (λ s. d (λ m f. ap sort_of (one_node i m n f e) ∙ s)))
+      (node_bound (t.contexts i) (t.types i) (t.binds i) n (rule_at i n e) (sorts_at i n e) (parts_of Part i n e (λ c m g h. (get_lt p.nodes c m g, bound_from k c m g (omega (arith, h))))) (λ s. d (ap (option_map sort_of) e ∙ ap Some s)))
 
   pub pattern_binds : (c : ℕ) (n : Node) → slice_get p.nodes c ≡ Some n → (sort_of n ≡ Expression → ⊥) → IsWithin (t.binds c) (binds p.nodes c)
-  pattern_binds c n e d = bound_from (length p.nodes) c n e (omega arith) (λ h. d (h n e))
+  pattern_binds c n e d = bound_from (length p.nodes) c n e (omega arith) (λ h. d (sort_is Expression c n e h))
 
   -- ---- Free variables
 
@@ -176,7 +180,7 @@ module _ (p : Bare) (t : Typing) (typing : IsTyping p t) (numbered : IsNumbered 
   known_in i c e h = subst (λ c. IsWithin (free p.nodes i) c.names) e h.1
 
   binds_at : (s : Sort) (c : ℕ) → (s ≡ Expression → ⊥) → IsOf p.nodes s c → c < length p.nodes → IsWithin (t.binds c) (binds p.nodes c)
-  binds_at s c d h lt = let n = get_some p.nodes c lt in pattern_binds c n.0 n.1 (λ e. d (sym (h n.0 n.1) ∙ e))
+  binds_at s c d h lt = let n = get_some p.nodes c lt in pattern_binds c n.0 n.1 (λ e. d (sym (sort_is s c n.0 n.1 h) ∙ e))
 
   scoped_known : (q e : ℕ) (ns : List ℕ) → IsWithin (free p.nodes q) ns → IsWithin (free p.nodes e) (t.binds q ++ ns) → IsWithin (t.binds q) (binds p.nodes q) → IsWithin (scoped (binds p.nodes) (free p.nodes) q e) ns
   scoped_known q e ns hq he hb =

@@ -1,6 +1,7 @@
 -- A step of a typed state goes to a typed state.
 use Rattle.sml_sound.proofs.Values.{a_list}
 use Rattle.sml_def.specs.Builtin.{assign}
+use Rattle.std.specs.Option.{option_map}
 use Rattle.std.specs.Prelude.{set}
 use Rattle.simulation.specs.Stores.{replaced}
 use Rattle.sml_sound.specs.TypedStates.{InFamily}
@@ -238,7 +239,10 @@ module _ (p : Bare) (t : Typing) (typing : IsTyping p t) (bare : IsBare p) (cove
   -- ---- Nodes
 
   exp_of : (c : ℕ) → c < length p.nodes → IsOf p.nodes Expression c → IsExp p t c
-  exp_of c lt h = let n = get_below p.nodes c lt in (n.0, n.1, h n.0 n.1)
+  exp_of c lt h =
+      let n = get_below p.nodes c lt in
+      let q : Some (sort_of n.0) ≡ Some Expression = ap (option_map sort_of) (sym n.1) ∙ h in
+      (n.0, n.1, cc)
 
   rules_exp : (i : ℕ) (rules : List Rule) → HasRules p.nodes rules → AllByRecursion (λ c. (i < c) × (c < length p.nodes)) (flat_map rule_parts rules) → AllByRecursion (λ r. IsExp p t r.body) rules
   rules_exp i [] s h = tt
