@@ -59,6 +59,10 @@ over_within : {B : Type 0} (f : B → List ℕ) (xs : List B) (ys : List ℕ) �
 over_within f [] ys h = within_nil ys
 over_within f (x ∷ xs) ys h = within_both (f x) (union_over f xs) ys h.0 (over_within f xs ys h.1)
 
+-- the sort that a node is of
+pub sort_is : (nodes : List Node) (s : Sort) (c : ℕ) (n : Node) → slice_get nodes c ≡ Some n → IsOf nodes s c → sort_of n ≡ s
+sort_is nodes s c n e h = let q : Some (sort_of n) ≡ Some s = ap (option_map sort_of) (sym e) ∙ h in cc
+
 module _ (p : Bare) (t : Typing) (typing : IsTyping p t) (numbered : IsNumbered p.nodes) (sorts : AllByRecursion (HasSorts p.nodes) p.nodes) where
   pub at_all : {A : Type 0} (P : A → Type 0) (xs : List A) (i : ℕ) (x : A) → AllByRecursion P xs → slice_get xs i ≡ Some x → P x
   at_all P [] i x h e = cc
@@ -87,11 +91,8 @@ module _ (p : Bare) (t : Typing) (typing : IsTyping p t) (numbered : IsNumbered 
   abbrev Binds : ℕ → Type 0
   Binds c = (IsOf p.nodes Expression c → ⊥) → IsWithin (t.binds c) (binds p.nodes c)
 
-  sort_is : (s : Sort) (c : ℕ) (n : Node) → slice_get p.nodes c ≡ Some n → IsOf p.nodes s c → sort_of n ≡ s
-  sort_is s c n e h = let q : Some (sort_of n) ≡ Some s = ap (option_map sort_of) (sym e) ∙ h in cc
-
   is_not : (s : Sort) (c : ℕ) (n : Node) → slice_get p.nodes c ≡ Some n → IsOf p.nodes s c → (s ≡ Expression → ⊥) → IsOf p.nodes Expression c → ⊥
-  is_not s c n e h d g = d (sym (sort_is s c n e h) ∙ sort_is Expression c n e g)
+  is_not s c n e h d g = d (sym (sort_is p.nodes s c n e h) ∙ sort_is p.nodes Expression c n e g)
 
   -- a part of the sort of patterns binds
   of_pattern : (c : ℕ) → c < length p.nodes → IsOf p.nodes Pattern c → Binds c → IsWithin (t.binds c) (binds p.nodes c)
@@ -169,7 +170,7 @@ module _ (p : Bare) (t : Typing) (typing : IsTyping p t) (numbered : IsNumbered 
       (node_bound (t.contexts i) (t.types i) (t.binds i) n (rule_at i n e) (sorts_at i n e) (parts_of Part i n e (λ c m g h. (get_lt p.nodes c m g, bound_from k c m g (omega (arith, h))))) (λ s. d (ap (option_map sort_of) e ∙ ap Some s)))
 
   pub pattern_binds : (c : ℕ) (n : Node) → slice_get p.nodes c ≡ Some n → (sort_of n ≡ Expression → ⊥) → IsWithin (t.binds c) (binds p.nodes c)
-  pattern_binds c n e d = bound_from (length p.nodes) c n e (omega arith) (λ h. d (sort_is Expression c n e h))
+  pattern_binds c n e d = bound_from (length p.nodes) c n e (omega arith) (λ h. d (sort_is p.nodes Expression c n e h))
 
   -- ---- Free variables
 
@@ -180,7 +181,7 @@ module _ (p : Bare) (t : Typing) (typing : IsTyping p t) (numbered : IsNumbered 
   known_in i c e h = subst (λ c. IsWithin (free p.nodes i) c.names) e h.1
 
   binds_at : (s : Sort) (c : ℕ) → (s ≡ Expression → ⊥) → IsOf p.nodes s c → c < length p.nodes → IsWithin (t.binds c) (binds p.nodes c)
-  binds_at s c d h lt = let n = get_some p.nodes c lt in pattern_binds c n.0 n.1 (λ e. d (sym (sort_is s c n.0 n.1 h) ∙ e))
+  binds_at s c d h lt = let n = get_some p.nodes c lt in pattern_binds c n.0 n.1 (λ e. d (sym (sort_is p.nodes s c n.0 n.1 h) ∙ e))
 
   scoped_known : (q e : ℕ) (ns : List ℕ) → IsWithin (free p.nodes q) ns → IsWithin (free p.nodes e) (t.binds q ++ ns) → IsWithin (t.binds q) (binds p.nodes q) → IsWithin (scoped (binds p.nodes) (free p.nodes) q e) ns
   scoped_known q e ns hq he hb =

@@ -1,7 +1,6 @@
 -- A step of a typed state goes to a typed state.
 use Rattle.sml_sound.proofs.Values.{a_list}
 use Rattle.sml_def.specs.Builtin.{assign}
-use Rattle.std.specs.Option.{option_map}
 use Rattle.std.specs.Prelude.{set}
 use Rattle.simulation.specs.Stores.{replaced}
 use Rattle.sml_sound.specs.TypedStates.{InFamily}
@@ -40,7 +39,7 @@ use Rattle.sml_types.specs.Typing.{IsTypedNode}
 use Rattle.sml_sound.specs.TypedStates.{EvalTy}
 use Rattle.sml_tree.specs.declared.bare.Con.{Con}
 use Rattle.sml_def.specs.Step.{eval_in}
-use Rattle.sml_sound.proofs.Names.{group_bound}
+use Rattle.sml_sound.proofs.Names.{group_bound, sort_is}
 use Rattle.std.proofs.lemmas.Bool.{eq-eqb}
 use Rattle.sml_types.specs.Poly.{Poly}
 use Rattle.sml_tree.proofs.FreeParts.{free_unfold}
@@ -239,10 +238,7 @@ module _ (p : Bare) (t : Typing) (typing : IsTyping p t) (bare : IsBare p) (cove
   -- ---- Nodes
 
   exp_of : (c : ℕ) → c < length p.nodes → IsOf p.nodes Expression c → IsExp p t c
-  exp_of c lt h =
-      let n = get_below p.nodes c lt in
-      let q : Some (sort_of n.0) ≡ Some Expression = ap (option_map sort_of) (sym n.1) ∙ h in
-      (n.0, n.1, cc)
+  exp_of c lt h = let n = get_below p.nodes c lt in (n.0, n.1, sort_is p.nodes Expression c n.0 n.1 h)
 
   rules_exp : (i : ℕ) (rules : List Rule) → HasRules p.nodes rules → AllByRecursion (λ c. (i < c) × (c < length p.nodes)) (flat_map rule_parts rules) → AllByRecursion (λ r. IsExp p t r.body) rules
   rules_exp i [] s h = tt
@@ -757,7 +753,7 @@ module _ (p : Bare) (t : Typing) (typing : IsTyping p t) (bare : IsBare p) (cove
           let n = get_below p.nodes d h.0.1 in
           let env_is = subst (λ xs. EnvTy p t sig f.at (union xs (without (free p.nodes body) (binds p.nodes d))) env) (free_unfold p.nodes bare.numbered d n.0 n.1) (at_own q ei) in
           known (slice_get p.nodes d) n.0 (λ dec. eval_dec p m body dec env k) n.1
-          (eval_dec_safe d body n.0 env k f.at n.1 (s.0 n.0 n.1) (rule_at p t typing bare.numbered bare.sorts d n.0 n.1) (exp_of body h.1.0.1 s.1) (subst (λ xs. EnvTy p t sig f.at (union (free_of (binds p.nodes) (free p.nodes) n.0) (without (free p.nodes body) xs)) env) (binds_unfold p.nodes bare.numbered d n.0 n.1) env_is) (subst (λ u. Accepts p t sig k (TakesAll p t (one f.at u))) (sym r.1.1) (only_one q ei refl (λ n c e. cc))))
+          (eval_dec_safe d body n.0 env k f.at n.1 (sort_is p.nodes Declaration d n.0 n.1 s.0) (rule_at p t typing bare.numbered bare.sorts d n.0 n.1) (exp_of body h.1.0.1 s.1) (subst (λ xs. EnvTy p t sig f.at (union (free_of (binds p.nodes) (free p.nodes) n.0) (without (free p.nodes body) xs)) env) (binds_unfold p.nodes bare.numbered d n.0 n.1) env_is) (subst (λ u. Accepts p t sig k (TakesAll p t (one f.at u))) (sym r.1.1) (only_one q ei refl (λ n c e. cc))))
       go node.Finish ei ex r s h = ret node.Finish ei (λ n c e. cc) Nothing (λ g a. ap (inst g) r)
       go _ ei ex r s h = cc
 
