@@ -4,16 +4,8 @@
 set -euo pipefail
 cd "$(dirname "$0")/.."
 
-tools=riscv64-linux-gnu
-for tool in "$tools-as" "$tools-ld" cc; do
-    if ! command -v "$tool" > /dev/null; then
-        echo "skipped: no $tool (packages binutils-riscv64-linux-gnu and gcc)"
-        exit 0
-    fi
-done
-
-folder=$(mktemp -d)
-trap 'rm -rf "$folder"' EXIT
+. tests/outside/needs.sh
+needs "packages binutils-riscv64-linux-gnu, gcc and bc" "$tools-as" "$tools-ld" cc bc
 
 # assembles and links NAME.s to NAME
 link() {

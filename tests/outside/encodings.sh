@@ -5,16 +5,8 @@
 set -euo pipefail
 cd "$(dirname "$0")/../.."
 
-tools=riscv64-linux-gnu
-for tool in as ld objcopy; do
-    if ! command -v "$tools-$tool" > /dev/null; then
-        echo "skipped: no $tools-$tool (package binutils-riscv64-linux-gnu)"
-        exit 0
-    fi
-done
-
-folder=$(mktemp -d)
-trap 'rm -rf "$folder"' EXIT
+. tests/outside/needs.sh
+needs "package binutils-riscv64-linux-gnu" "$tools-as" "$tools-ld" "$tools-objcopy"
 
 # assembles NAME.s, links it at 0x10000 and writes its bytes into NAME.bin
 assemble() {
