@@ -1,6 +1,0 @@
-use Rattle.std.proofs.Common.{◌≡◌, ◌++◌}
-use Rattle.sml_derive.specs.Forests.{fields_at}
-use Rattle.sml_derive.proofs.piece.fields_at.Given as goal
-
-abbrev pub invariant-loop-field : goal.invariant-loop-field
-invariant-loop-field l = l.named ++ fields_at l.rest l.field-iterator.rest.items ≡ fields_at l.parts l.fn.fields

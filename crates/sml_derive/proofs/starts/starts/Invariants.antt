@@ -1,6 +1,0 @@
-use Rattle.std.proofs.Common.{◌≡◌, drop}
-use Rattle.sml_derive.specs.Starts.{starts_behind, starts_of}
-use Rattle.sml_derive.proofs.starts.starts.Given as goal
-
-abbrev pub invariant-loop-node : goal.invariant-loop-node
-invariant-loop-node l = starts_behind l.starts.items (drop l.node-index l.nodes) ≡ starts_of l.nodes
