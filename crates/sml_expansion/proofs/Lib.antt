@@ -1,5 +1,4 @@
-pub mod PieceLemmas
+mod PartLemmas
 mod ReverseLemmas
-mod ScopedLemmas
 mod StartLemmas
 pub mod TreeLemmas

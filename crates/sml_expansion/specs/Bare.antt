@@ -25,11 +25,6 @@ con_cons = con.Data 5 1 true
 abbrev pub fields : List Lab → List Field
 fields labs = map (λ l. record { lab = l; slot = slot labs l; node = 0 }) labs
 
--- one item for each tree
-abbrev pub each : Forest → List (Unit {0})
-each none = []
-each (tree n p parts rest) = tt ∷ each rest
-
 -- Expressions.
 
 abbrev pub variable_node : Place → ℕ → Forest
@@ -43,7 +38,7 @@ record_node p labs f = grown (node.Record (fields labs)) p f
 
 -- `(e1, .., en)`: the record with labels 1 to n
 abbrev pub tuple_node : Place → Forest → Forest
-tuple_node p f = record_node p (numbers 0 (each f)) f
+tuple_node p f = record_node p (numbers 0 (count f)) f
 
 abbrev pub apply_node : Place → Forest → Forest → Forest
 apply_node p f a = grown (node.App 0 0) p (f & a)
@@ -73,7 +68,7 @@ abbrev pub record_pattern : Place → List Lab → Forest → Forest
 record_pattern p labs f = grown (node.PatRecord (fields labs)) p f
 
 abbrev pub tuple_pattern : Place → Forest → Forest
-tuple_pattern p f = record_pattern p (numbers 0 (each f)) f
+tuple_pattern p f = record_pattern p (numbers 0 (count f)) f
 
 -- Derived forms. They have the place of the whole form.
 

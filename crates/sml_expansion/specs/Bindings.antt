@@ -14,13 +14,15 @@ use Rattle.sml_expansion.specs.declared.meaning.Meaning.{Meaning}
 use Rattle.sml_expansion.specs.declared.meaning.Meaning.TheVariants.{Constructor}
 use Rattle.sml_expansion.specs.declared.meaning.TypeMeaning.{TypeMeaning}
 use Rattle.sml_expansion.specs.declared.meaning.TypeMeaning.TheVariants.{TypeName, Abbreviation}
+use Rattle.sml_expansion.specs.declared.scope.Ident.{Ident}
+use Rattle.sml_expansion.specs.declared.scope.Bound.{Bound}
 use Rattle.sml_expansion.specs.Terms.{Term, leaf, one, two, three, place_at}
 use Rattle.sml_expansion.specs.Forests.{Forest, none, grown, ◌&◌}
-use Rattle.sml_expansion.specs.Scopes.{Scope, Env, nothing, Ident, ident, meaning_of, within, with_tyvars}
+use Rattle.sml_expansion.specs.Scopes.{Scope, Env, nothing, ident, text_of, meaning_of, within}
 use Rattle.sml_expansion.specs.Makings.{Makes, gives, breaks, new_name, new_type_name, new_abbreviation, ◌>>=◌, ◌>>◌}
 use Rattle.sml_expansion.specs.Types.{type_of}
-use Rattle.sml_expansion.specs.TypeVariables.{tyvars, params, numbers_of}
-use Rattle.sml_expansion.specs.Patterns.{Bound, binds, patterns, not_fixed, no_long, idents_once}
+use Rattle.sml_expansion.specs.TypeVariables.{tyvars, params, only_params, numbers_of}
+use Rattle.sml_expansion.specs.Patterns.{binds, patterns, not_fixed, no_long, idents_once}
 
 -- What declarations come to: their trees, for each whether its variables are shown, and what they bind.
 pub record Decs : Type 0 where
@@ -38,14 +40,14 @@ one_dec f e = record { forest = f; shown = true ∷ []; env = e }
 pub record TypeDecs : Type 0 where
   pub bindings : List TypeBinding
   pub idents : List Ident
-  pub types : List (List ℕ × TypeMeaning)
+  pub types : List (ℕ × TypeMeaning)
 
 abbrev pub type_bindings : Scope → Term → Makes TypeDecs
 type_bindings s (three node.TypBind p vs c t) = let i = ident s.names c in do
-  ps ← params (tyvars s.names vs)
-  ty ← type_of (with_tyvars s ps) t
+  ps ← params s.names (tyvars s.names vs)
+  ty ← type_of (only_params s ps) t
   k ← new_abbreviation
-  gives (record { bindings = record { number = k; params = numbers_of ps; ty = ty } ∷ []; idents = i ∷ []; types = (i.text, Abbreviation k) ∷ [] })
+  gives (record { bindings = record { number = k; params = numbers_of ps; ty = ty } ∷ []; idents = i ∷ []; types = (i.key, Abbreviation k) ∷ [] })
 type_bindings s (two node.MoreTypBinds p a b) = do
   x ← type_bindings s a
   y ← type_bindings s b
@@ -90,18 +92,18 @@ has None = false
 has (Some t) = true
 
 -- what the constructors of the type name k stand for, where the first has number i
-abbrev pub con_meanings : ℕ → ℕ → List NewCon → List (List ℕ × Meaning)
+abbrev pub con_meanings : ℕ → ℕ → List NewCon → List (ℕ × Meaning)
 con_meanings k i [] = []
-con_meanings k i (c ∷ cons) = (c.ident.text, Constructor (con.Data k i (has c.arg))) ∷ con_meanings k (suc i) cons
+con_meanings k i (c ∷ cons) = (c.ident.key, Constructor (con.Data k i (has c.arg))) ∷ con_meanings k (suc i) cons
 
 pub record DatDecs : Type 0 where
   pub bindings : List DatBinding
   pub idents : List Ident
-  pub values : List (List ℕ × Meaning)
+  pub values : List (ℕ × Meaning)
 
-abbrev pub datatype_of : ℕ → Ident → List (List ℕ × ℕ) → List NewCon → DatDecs
-datatype_of k i ps cons = record {
-  bindings = record { type_name = k; text = i.text; params = numbers_of ps; cons = map (λ c. record { text = c.ident.text; arg = c.arg }) cons } ∷ [];
+abbrev pub datatype_of : List (List ℕ) → ℕ → Ident → List (ℕ × ℕ) → List NewCon → DatDecs
+datatype_of names k i ps cons = record {
+  bindings = record { type_name = k; text = text_of names i.key; params = numbers_of ps; cons = map (λ c. record { text = text_of names c.ident.key; arg = c.arg }) cons } ∷ [];
   idents = map (λ c. c.ident) cons;
   values = reverse (con_meanings k 0 cons);
 }
@@ -109,9 +111,9 @@ datatype_of k i ps cons = record {
 -- `datatype` bindings, of which the first has the type name k
 abbrev pub datatypes : Scope → ℕ → Term → Makes DatDecs
 datatypes s k (three node.DatBind p vs c cons) = do
-  ps ← params (tyvars s.names vs)
-  x ← constructors (with_tyvars s ps) cons
-  gives (datatype_of k (ident s.names c) ps x)
+  ps ← params s.names (tyvars s.names vs)
+  x ← constructors (only_params s ps) cons
+  gives (datatype_of s.names k (ident s.names c) ps x)
 datatypes s k (two node.MoreDatBinds p a b) = do
   x ← datatypes s k a
   y ← datatypes s (suc k) b
@@ -119,17 +121,17 @@ datatypes s k (two node.MoreDatBinds p a b) = do
 datatypes s k _ = gives (record { bindings = []; idents = []; values = [] })
 
 abbrev pub type_env : List (Ident × ℕ) → Env
-type_env news = record { values = []; types = reverse (map (λ n. (n.0.text, TypeName n.1)) news) }
+type_env news = record { values = []; types = reverse (map (λ n. (n.0.key, TypeName n.1)) news) }
 
 abbrev pub first_number : List (Ident × ℕ) → ℕ
 first_number [] = 0
 first_number (n ∷ news) = n.1
 
-abbrev pub none_fixed : List Ident → Makes (Unit {0})
-none_fixed [] = gives tt
-none_fixed (i ∷ idents) = do
-  not_fixed i
-  none_fixed idents
+abbrev pub none_fixed : List (List ℕ) → List Ident → Makes (Unit {0})
+none_fixed names [] = gives tt
+none_fixed names (i ∷ idents) = do
+  not_fixed names i
+  none_fixed names idents
 
 -- the types of a datatype declaration see its type names
 abbrev pub datatype_dec : Scope → Place → Term → Makes Decs
@@ -137,7 +139,7 @@ datatype_dec s p t = do
   news ← new_datatypes s.names t
   idents_once (map (λ n. n.0) news)
   x ← datatypes (within s (type_env news)) (first_number news) t
-  none_fixed x.idents
+  none_fixed s.names x.idents
   idents_once x.idents
   gives (one_dec (grown (bare.Datatype x.bindings) p none) (record { values = x.values; types = (type_env news).types }))
 
@@ -146,14 +148,14 @@ pub record ExDecs : Type 0 where
   pub forest : Forest
   pub shown : List Bool
   pub idents : List Ident
-  pub values : List (List ℕ × Meaning)
+  pub values : List (ℕ × Meaning)
 
 abbrev pub exception_of : Place → Ident → ℕ → Option ℕ → ExDecs
 exception_of p i x arg = record {
   forest = grown (bare.Exception (record { 0 = x }) arg) p none;
   shown = true ∷ [];
   idents = i ∷ [];
-  values = (i.text, Constructor (con.Exn (record { 0 = x }) (has arg))) ∷ [];
+  values = (i.key, Constructor (con.Exn (record { 0 = x }) (has arg))) ∷ [];
 }
 
 -- what names no exception constructor can't be renamed, and has no typing
@@ -167,19 +169,19 @@ renaming_of p i x (Some (Constructor c)) = if is_exception c then (record {
   forest = grown (bare.SameException (record { 0 = x }) c) p none;
   shown = true ∷ [];
   idents = i ∷ [];
-  values = (i.text, Constructor (con.Exn (record { 0 = x }) (takes_argument c))) ∷ [];
+  values = (i.key, Constructor (con.Exn (record { 0 = x }) (takes_argument c))) ∷ [];
 })
     else (record {
       forest = grown (bare.NoException (record { 0 = x })) p none;
       shown = true ∷ [];
       idents = i ∷ [];
-      values = (i.text, Constructor (con.Exn (record { 0 = x }) false)) ∷ [];
+      values = (i.key, Constructor (con.Exn (record { 0 = x }) false)) ∷ [];
     })
 renaming_of p i x m = record {
   forest = grown (bare.NoException (record { 0 = x })) p none;
   shown = true ∷ [];
   idents = i ∷ [];
-  values = (i.text, Constructor (con.Exn (record { 0 = x }) false)) ∷ [];
+  values = (i.key, Constructor (con.Exn (record { 0 = x }) false)) ∷ [];
 }
 
 abbrev pub unbound : Option Meaning → Ident → List Refusal
@@ -188,16 +190,16 @@ unbound (Some m) i = []
 
 abbrev pub exceptions : Scope → Place → Term → Makes ExDecs
 exceptions s p (one node.ExBind q v) = let i = ident s.names v in do
-  x ← new_name i.text
+  x ← new_name (text_of s.names i.key)
   gives (exception_of p i x None)
 exceptions s p (two node.ExBindOf q v t) = let i = ident s.names v in do
-  x ← new_name i.text
+  x ← new_name (text_of s.names i.key)
   ty ← type_of s t
   gives (exception_of p i x (Some ty))
 exceptions s p (two node.ExBindIs q v w) = let i = ident s.names v in let j = ident s.names w in do
-  x ← new_name i.text
-  breaks (unbound (meaning_of s j.text) j)
-  gives (renaming_of p i x (meaning_of s j.text))
+  x ← new_name (text_of s.names i.key)
+  breaks (unbound (meaning_of s j.key) j)
+  gives (renaming_of p i x (meaning_of s j.key))
 exceptions s p (two node.MoreExBinds q a b) = do
   x ← exceptions s p a
   y ← exceptions s p b
@@ -207,7 +209,7 @@ exceptions s p _ = gives (record { forest = none; shown = []; idents = []; value
 abbrev pub exception_dec : Scope → Place → Term → Makes Decs
 exception_dec s p t = do
   x ← exceptions s p t
-  none_fixed x.idents
+  none_fixed s.names x.idents
   idents_once x.idents
   gives (record { forest = x.forest; shown = x.shown; env = record { values = x.values; types = [] } })
 
@@ -215,10 +217,10 @@ exception_dec s p t = do
 abbrev pub rec_ident : Scope → Ident → Makes (List Bound)
 rec_ident s i =
     if i.long then (do
-      breaks (no_long (meaning_of s i.text) i ∷ [])
+      breaks (no_long (meaning_of s i.key) i ∷ [])
       gives [])
     else (do
-      v ← binds i
+      v ← binds s.names i
       gives (v ∷ []))
 
 -- The name of a recursive binding, whose pattern is an identifier, perhaps typed, and stands in the pattern w.

@@ -1,14 +1,16 @@
 -- Clauses of functions, and their heads.
-use Rattle.std.specs.Prelude.{ℕ, ◌+◌, ◌==◌, if◌then◌else◌, List, [], ◌∷◌, ◌++◌, bytes_eq}
+use Rattle.std.specs.Prelude.{ℕ, ◌+◌, ◌==◌, if◌then◌else◌, List, [], ◌∷◌, ◌++◌, nat_eq}
 use Rattle.smlc_base.specs.declared.refusal.Refusal.{Refusal}
 use Rattle.smlc_base.specs.declared.refusal.Refusal.TheVariants as refusal
 use Rattle.sml_tree.specs.declared.tree_node.TreeNode.TheVariants as node
+use Rattle.sml_expansion.specs.declared.scope.Ident.{Ident}
+use Rattle.sml_expansion.specs.declared.scope.Bound.{Bound}
 use Rattle.sml_expansion.specs.Terms.{Term, two, three, four, place_at}
 use Rattle.sml_expansion.specs.Forests.{Forest, none}
-use Rattle.sml_expansion.specs.Scopes.{Scope, Ident, ident}
+use Rattle.sml_expansion.specs.Scopes.{Scope, ident}
 use Rattle.sml_expansion.specs.Makings.{Makes, gives, breaks, new_names, ◌>>=◌, ◌>>◌}
 use Rattle.sml_expansion.specs.Bare.{tuple_pattern, function_node}
-use Rattle.sml_expansion.specs.Patterns.{Pattern, Bound, plain, beside, under, patterns, binds}
+use Rattle.sml_expansion.specs.Patterns.{Pattern, plain, beside, under, patterns, binds}
 use Rattle.std.specs.Prelude.{codes}
 
 -- the head of a clause
@@ -61,7 +63,7 @@ arguments s t = gives (plain none)
 
 -- all clauses are for one name, which isn't long, and have one number of arguments
 abbrev pub name_refusals : Ident → Ident → List Refusal
-name_refusals f i = if i.long then refusal.BadBinding i.place ∷ [] else (if bytes_eq i.text f.text then [] else refusal.BadBinding i.place ∷ [])
+name_refusals f i = if i.long then refusal.BadBinding i.place ∷ [] else (if nat_eq i.key f.key then [] else refusal.BadBinding i.place ∷ [])
 
 abbrev pub clause_refusals : List (List ℕ) → Ident → ℕ → Term → List Refusal
 clause_refusals names f n (two node.MoreClauses p a b) = clause_refusals names f n a ++ clause_refusals names f n b
@@ -78,7 +80,7 @@ abbrev pub binds_function : List (List ℕ) → Term → Makes (List Bound)
 binds_function names t = let f = function_name names t in do
   breaks (clause_refusals names f (arguments_in (head (first_clause t))) t)
   if f.long then gives [] else (do
-    v ← binds f
+    v ← binds names f
     gives (v ∷ []))
 
 -- the bindings of the functions of a declaration

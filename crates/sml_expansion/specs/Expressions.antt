@@ -8,14 +8,16 @@ use Rattle.sml_tree.specs.declared.tree_node.TreeNode.TheVariants as node
 use Rattle.sml_prelude.specs.Values.{is_function, takes_argument}
 use Rattle.sml_expansion.specs.declared.meaning.Meaning.{Meaning}
 use Rattle.sml_expansion.specs.declared.meaning.Meaning.TheVariants.{Variable, Constructor, Builtin}
+use Rattle.sml_expansion.specs.declared.scope.Ident.{Ident}
+use Rattle.sml_expansion.specs.declared.scope.Bound.{Bound}
 use Rattle.sml_expansion.specs.Terms.{Term, leaf, one, two, three, place_at}
 use Rattle.sml_expansion.specs.Forests.{Forest, none, tree, grown, ◌&◌}
-use Rattle.sml_expansion.specs.Scopes.{Scope, Env, followed, Ident, ident, meaning_of, within}
+use Rattle.sml_expansion.specs.Scopes.{Scope, Env, followed, ident, meaning_of, within}
 use Rattle.sml_expansion.specs.Makings.{Makes, gives, breaks, new_name, ◌>>=◌, ◌>>◌}
 use Rattle.sml_expansion.specs.Types.{labels, labels_once, type_of}
 use Rattle.sml_expansion.specs.TypeVariables.{tyvars, unguarded, opens, in_scope, numbers_of}
 use Rattle.sml_expansion.specs.Bare.{con_true, con_false, con_node, variable_node, record_node, tuple_node, apply_node, case_node, fn_node, if_node, sequence_node, list_node, nest, eta_node, while_node, typed_node, tuple_pattern_unless_one}
-use Rattle.sml_expansion.specs.Patterns.{Pattern, Bound, patterns, whole, vars_once, env_of}
+use Rattle.sml_expansion.specs.Patterns.{Pattern, patterns, whole, vars_once, env_of}
 use Rattle.sml_expansion.specs.Clauses.{arguments, binds_functions, function}
 use Rattle.sml_expansion.specs.Bindings.{Decs, no_decs, type_dec, datatype_dec, exception_dec, rec_names, annotations, fn_on_the_right}
 
@@ -40,7 +42,7 @@ named h p i None = do
   gives (tuple_node p none)
 
 abbrev pub identifier : Position → Scope → Place → Ident → Makes Forest
-identifier h s p i = named h p i (meaning_of s i.text)
+identifier h s p i = named h p i (meaning_of s i.key)
 
 -- `fn`, perhaps parenthesised
 abbrev pub is_fn : Term → Bool
@@ -243,14 +245,14 @@ abbrev mutual
     y ← decs (within s x.env) b
     gives (decs_inside x y)
   decs s (two node.Val p vs b) = do
-    bound ← opens s (tyvars s.names vs) (unguarded s.names b)
+    bound ← opens s (tyvars s.names vs) (unguarded b)
     x ← plain_bindings (in_scope s bound) b
     names ← rec_names (in_scope s bound) false b
     vars_once (x.vars ++ names)
     y ← rec_rights false (within (in_scope s bound) (env_of names)) b
     gives (decs_of (plain_dec p (numbers_of bound) x.forest & rec_dec p (numbers_of bound) names y) (env_of (x.vars ++ names)))
   decs s (two node.Fun p vs b) = do
-    bound ← opens s (tyvars s.names vs) (unguarded s.names b)
+    bound ← opens s (tyvars s.names vs) (unguarded b)
     names ← binds_functions s.names b
     vars_once names
     y ← function b (functions (within (in_scope s bound) (env_of names)) b)

@@ -1,5 +1,5 @@
 -- Labels of records, and names that stand twice.
-use Rattle.std.specs.Prelude.{ℕ, suc, pos, Bool, not, ◌||◌, if◌then◌else◌, List, [], ◌∷◌, ◌++◌, count_by}
+use Rattle.std.specs.Prelude.{ℕ, zero, suc, pos, Bool, not, ◌||◌, if◌then◌else◌, List, [], ◌∷◌, ◌++◌, count_by}
 use Rattle.std.specs.List.{list_any}
 use Rattle.smlc_base.specs.declared.place.Place.{Place}
 use Rattle.smlc_base.specs.declared.refusal.Refusal.{Refusal}
@@ -15,10 +15,10 @@ lab_eq x y = not (lab_less x y || lab_less y x)
 abbrev pub slot : List Lab → Lab → ℕ
 slot labs lab = count_by (λ other. lab_less other lab) labs
 
--- the labels 1, 2 and so on, from i + 1, one for each item
-abbrev pub numbers : {A : Type 0} → ℕ → List A → List Lab
-numbers i [] = []
-numbers i (x ∷ xs) = Num (pos (suc i)) ∷ numbers (suc i) xs
+-- so many labels 1, 2 and so on, from i + 1
+abbrev pub numbers : ℕ → ℕ → List Lab
+numbers i zero = []
+numbers i (suc n) = Num (pos (suc i)) ∷ numbers (suc i) n
 
 -- the refusals at the items of which an equal one stands on their left, where those of `seen` do too
 abbrev pub doubles : {A : Type 0} → (A → A → Bool) → List A → List (A × Place) → List Refusal

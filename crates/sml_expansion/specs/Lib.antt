@@ -7,10 +7,11 @@ pub mod Forests
 pub mod Labels
 pub mod Makings
 pub mod Patterns
-pub mod Pieces
+pub mod Marks
 pub mod Programs
 pub mod Refusals
 pub mod Scopes
+pub mod Sources
 pub mod Starts
 pub mod Terms
 pub mod TypeVariables

@@ -1,5 +1,5 @@
 -- What an expansion makes beside nodes, and the steps that make it.
-use Rattle.std.specs.Prelude.{ℕ, suc, zero, ◌==◌, ◌&&◌, None, List, [], ◌∷◌, ◌++◌, fold, length, slice_index}
+use Rattle.std.specs.Prelude.{◌≡◌, ℕ, suc, zero, ◌==◌, ◌&&◌, None, List, [], ◌∷◌, ◌++◌, fold, length, slice_index}
 use Rattle.smlc_base.specs.declared.refusal.Refusal.{Refusal}
 use Rattle.sml_tree.specs.declared.bare.TypeExp.{TypeExp}
 use Rattle.sml_expansion.specs.declared.made.Made.{Made}
@@ -12,6 +12,10 @@ nothing_made = record { names = []; types = []; tyvars = []; type_names = 10; ab
 -- what gives an A and makes something
 abbrev pub Makes : Type 0 → Type 0
 Makes A = Made → A × Made
+
+-- in the state m, f gives a and leaves n
+abbrev pub Runs : {A : Type 0} → Makes A → Made → A → Made → Type 0
+Runs f m a n = f m ≡ (a, n)
 
 abbrev pub gives : {A : Type 0} → A → Makes A
 gives a = λ m. (a, m)
@@ -44,13 +48,6 @@ new_type t = λ m. (length m.types, record m { types = m.types ++ t ∷ [] })
 -- a new type variable; one that admits equality alone begins with two primes
 abbrev pub new_tyvar : List ℕ → Makes ℕ
 new_tyvar text = λ m. (length m.tyvars, record m { tyvars = m.tyvars ++ (slice_index text 0 == 39 && slice_index text 1 == 39) ∷ [] })
-
-abbrev pub new_tyvars : List (List ℕ) → Makes (List (List ℕ × ℕ))
-new_tyvars [] = gives []
-new_tyvars (x ∷ texts) = do
-  k ← new_tyvar x
-  rest ← new_tyvars texts
-  gives ((x, k) ∷ rest)
 
 abbrev pub new_type_name : Makes ℕ
 new_type_name = λ m. (m.type_names, record m { type_names = suc m.type_names })

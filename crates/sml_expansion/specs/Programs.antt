@@ -3,10 +3,11 @@ use Rattle.std.specs.Prelude.{ℕ, suc, ◌+◌, Bool, true, false, ◌&&◌, if
 use Rattle.smlc_base.specs.declared.place.Place.{Place}
 use Rattle.sml_tree.specs.declared.bare.Node.{Node}
 use Rattle.sml_tree.specs.declared.bare.Node.TheVariants as bare
+use Rattle.sml_expansion.specs.declared.made.Made.{Made}
 use Rattle.sml_expansion.specs.Terms.{Term, place_at}
 use Rattle.sml_expansion.specs.Forests.{Forest, none, tree, grown, size, numbered, places}
 use Rattle.sml_expansion.specs.Scopes.{Scope, nothing, within}
-use Rattle.sml_expansion.specs.Makings.{Made, nothing_made, Makes, gives, ◌>>=◌}
+use Rattle.sml_expansion.specs.Makings.{nothing_made, Makes, gives, ◌>>=◌}
 use Rattle.sml_expansion.specs.Bare.{nest}
 use Rattle.sml_expansion.specs.Expressions.{decs}
 

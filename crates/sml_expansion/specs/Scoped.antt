@@ -1,19 +1,25 @@
--- What is bound to names by number, over what stood at first.
-use Rattle.std.specs.Prelude.{◌≡◌, ℕ, List, [], ◌∷◌, ◌++◌, Option, Some, None, get_or, slice_set}
-use Rattle.sml_expansion.specs.declared.scoped.Scoped.{Scoped}
+-- What is bound to numbers: pairs of a number and what it stands for, the latest first.
+use Rattle.std.specs.Prelude.{◌≡◌, ℕ, ◌-◌, if◌then◌else◌, nat_eq, List, [], ◌∷◌, Option, Some, None, get_or, map, reverse, drop, length}
 
-module _ {T : Type 0} (base : List (Option T)) where
-  -- what each name stands for behind these bindings, the latest first
-  abbrev pub applied : List (ℕ × T) → List (Option T)
-  applied [] = base
-  applied (b ∷ env) = slice_set (applied env) b.0 (Some b.1)
+-- what a number stands for
+abbrev pub latest : {T : Type 0} → List (ℕ × T) → ℕ → Option T
+latest [] k = None
+latest (b ∷ env) k = if nat_eq b.0 k then Some b.1 else latest env k
 
-  -- what each binding hides
-  abbrev pub hidden : List (ℕ × T) → List (ℕ × Option T)
-  hidden [] = []
-  hidden (b ∷ env) = hidden env ++ (b.0, get_or (applied env) b.0 None) ∷ []
+-- the bindings that stood when there were n
+abbrev pub oldest : {T : Type 0} → ℕ → List T → List T
+oldest n env = drop (length env - n) env
 
-  -- these bindings stand
-  pub record Stands (scoped : Scoped T) (env : List (ℕ × T)) : Type 0 where
-    pub now_is : scoped.meanings.items ≡ applied env
-    pub hidden_is : scoped.hidden.items ≡ hidden env
+-- A binding with what it hides.
+abbrev pub bound : {T : Type 0} → List (ℕ × T × Option T) → List (ℕ × T)
+bound log = map (λ b. (b.0, b.1)) (reverse log)
+
+-- each binding, the latest first, hides what its number stood for before
+abbrev pub Hide : {T : Type 0} → List (ℕ × T × Option T) → Type 0
+Hide [] = Unit {0}
+Hide (b ∷ log) = (b.2 ≡ latest (map (λ b. (b.0, b.1)) log) b.0) × Hide log
+
+-- a table has what each number stands for by the bindings of a log, which has each behind those before it
+pub record Stands {T : Type 0} (meanings : List (Option T)) (log : List (ℕ × T × Option T)) : Type 0 where
+  pub now : (k : ℕ) → get_or meanings k None ≡ latest (bound log) k
+  pub hide : Hide (reverse log)

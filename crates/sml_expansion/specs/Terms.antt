@@ -19,6 +19,13 @@ place_at (two n p a b) = p
 place_at (three n p a b c) = p
 place_at (four n p a b c d) = p
 
+abbrev pub node_of : Term → TreeNode
+node_of (leaf n p) = n
+node_of (one n p a) = n
+node_of (two n p a b) = n
+node_of (three n p a b c) = n
+node_of (four n p a b c d) = n
+
 -- the nodes that spell a tree: each behind its parts
 abbrev pub spells : Term → List (TreeNode × Place)
 spells (leaf n p) = (n, p) ∷ []

@@ -1,12 +1,13 @@
 -- The type variables that declarations bind.
-use Rattle.std.specs.Prelude.{ℕ, Bool, if◌then◌else◌, List, [], ◌∷◌, ◌++◌, map, filter, bytes_eq, is_some}
+use Rattle.std.specs.Prelude.{ℕ, Bool, if◌then◌else◌, List, [], ◌∷◌, ◌++◌, map, filter, reverse, nat_eq, is_some}
 use Rattle.std.specs.List.{list_any}
 use Rattle.smlc_base.specs.declared.refusal.Refusal.TheVariants as refusal
 use Rattle.sml_tree.specs.declared.tree_node.TreeNode.TheVariants as node
-use Rattle.sml_prelude.specs.Entries.{first_of}
+use Rattle.sml_expansion.specs.declared.scope.Ident.{Ident}
+use Rattle.sml_expansion.specs.Scoped.{latest}
 use Rattle.sml_expansion.specs.Terms.{Term, leaf, one, two, three, four}
-use Rattle.sml_expansion.specs.Scopes.{Scope, Ident, ident, text_of, with_tyvars}
-use Rattle.sml_expansion.specs.Makings.{Makes, breaks, new_tyvars, ◌>>◌}
+use Rattle.sml_expansion.specs.Scopes.{Scope, ident, text_of, with_tyvars}
+use Rattle.sml_expansion.specs.Makings.{Makes, gives, breaks, new_tyvar, ◌>>=◌, ◌>>◌}
 use Rattle.sml_expansion.specs.Patterns.{idents_once}
 
 -- a sequence of type variables
@@ -17,49 +18,61 @@ tyvars names (two node.MoreTyVars p a b) = tyvars names a ++ tyvars names b
 tyvars names _ = []
 
 -- The type variables that occur in a phrase, in order, but for those in value, type and datatype declarations inside it.
-abbrev pub unguarded : List (List ℕ) → Term → List (List ℕ)
-unguarded names (leaf (node.TyVar x) p) = text_of names x ∷ []
-unguarded names (leaf n p) = []
-unguarded names (one node.Type p a) = []
-unguarded names (one node.Datatype p a) = []
-unguarded names (one n p a) = unguarded names a
-unguarded names (two node.Val p a b) = []
-unguarded names (two node.Fun p a b) = []
-unguarded names (two n p a b) = unguarded names a ++ unguarded names b
-unguarded names (three n p a b c) = unguarded names a ++ unguarded names b ++ unguarded names c
-unguarded names (four n p a b c d) = unguarded names a ++ unguarded names b ++ unguarded names c ++ unguarded names d
+abbrev pub unguarded : Term → List ℕ
+unguarded (leaf (node.TyVar x) p) = x.0 ∷ []
+unguarded (leaf n p) = []
+unguarded (one node.Type p a) = []
+unguarded (one node.Datatype p a) = []
+unguarded (one n p a) = unguarded a
+unguarded (two node.Val p a b) = []
+unguarded (two node.Fun p a b) = []
+unguarded (two n p a b) = unguarded a ++ unguarded b
+unguarded (three n p a b c) = unguarded a ++ unguarded b ++ unguarded c
+unguarded (four n p a b c d) = unguarded a ++ unguarded b ++ unguarded c ++ unguarded d
 
-abbrev pub stands : List (List ℕ) → List ℕ → Bool
-stands texts x = list_any (bytes_eq x) texts
+abbrev pub stands : List ℕ → ℕ → Bool
+stands keys x = list_any (nat_eq x) keys
 
--- each text once, where those of `seen` are left out
-abbrev pub once : List (List ℕ) → List (List ℕ) → List (List ℕ)
+-- each of them once, where those of `seen` are left out
+abbrev pub once : List ℕ → List ℕ → List ℕ
 once seen [] = []
-once seen (x ∷ texts) = if stands seen x then once seen texts else x ∷ once (x ∷ seen) texts
+once seen (x ∷ keys) = if stands seen x then once seen keys else x ∷ once (x ∷ seen) keys
 
-abbrev pub texts_of : List Ident → List (List ℕ)
-texts_of idents = map (λ i. i.text) idents
+abbrev pub keys_of : List Ident → List ℕ
+keys_of idents = map (λ i. i.key) idents
 
--- those with a number, the latest first, before those around
-abbrev pub in_scope : Scope → List (List ℕ × ℕ) → Scope
-in_scope s vars = with_tyvars s (vars ++ s.tyvars)
+-- new type variables, with what each is numbered
+abbrev pub new_tyvars : List (List ℕ) → List ℕ → Makes (List (ℕ × ℕ))
+new_tyvars names [] = gives []
+new_tyvars names (x ∷ keys) = do
+  k ← new_tyvar (text_of names x)
+  rest ← new_tyvars names keys
+  gives ((x, k) ∷ rest)
+
+-- those with a number before those around, the latest first
+abbrev pub in_scope : Scope → List (ℕ × ℕ) → Scope
+in_scope s vars = with_tyvars s (reverse vars ++ s.tyvars)
+
+-- those with a number alone
+abbrev pub only_params : Scope → List (ℕ × ℕ) → Scope
+only_params s vars = with_tyvars s (reverse vars)
 
 abbrev pub bound_again : Scope → Ident → Bool
-bound_again s i = is_some (first_of s.tyvars i.text)
+bound_again s i = is_some (latest s.tyvars i.key)
 
 -- A value declaration binds the type variables that it names, and those that occur unguarded in it and aren't bound around it.
 -- None of the former is bound around it.
-abbrev pub opens : Scope → List Ident → List (List ℕ) → Makes (List (List ℕ × ℕ))
+abbrev pub opens : Scope → List Ident → List ℕ → Makes (List (ℕ × ℕ))
 opens s explicit occurring = do
   idents_once explicit
   breaks (map (λ i. refusal.BadBinding i.place) (filter (bound_again s) explicit))
-  new_tyvars (once [] (texts_of explicit) ++ once (texts_of explicit ++ map (λ v. v.0) s.tyvars) occurring)
+  new_tyvars s.names (once [] (keys_of explicit) ++ once (keys_of explicit ++ map (λ v. v.0) s.tyvars) occurring)
 
 -- the type variables on the left of a `type` or `datatype` binding
-abbrev pub params : List Ident → Makes (List (List ℕ × ℕ))
-params idents = do
+abbrev pub params : List (List ℕ) → List Ident → Makes (List (ℕ × ℕ))
+params names idents = do
   idents_once idents
-  new_tyvars (texts_of idents)
+  new_tyvars names (keys_of idents)
 
-abbrev pub numbers_of : List (List ℕ × ℕ) → List ℕ
+abbrev pub numbers_of : List (ℕ × ℕ) → List ℕ
 numbers_of vars = map (λ v. v.1) vars

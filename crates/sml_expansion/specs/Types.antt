@@ -1,5 +1,5 @@
 -- Types as they are written.
-use Rattle.std.specs.Prelude.{ℕ, List, [], ◌∷◌, ◌++◌, Option, Some, None, map, get_or}
+use Rattle.std.specs.Prelude.{ℕ, List, [], ◌∷◌, ◌++◌, Option, Some, None, map, length, get_or}
 use Rattle.smlc_base.specs.declared.place.Place.{Place}
 use Rattle.smlc_base.specs.declared.refusal.Refusal.TheVariants as refusal
 use Rattle.sml_tree.specs.declared.tree_node.TreeNode.TheVariants as node
@@ -7,17 +7,18 @@ use Rattle.sml_tree.specs.declared.bare.Lab.{Lab}
 use Rattle.sml_tree.specs.declared.bare.Lab.TheVariants.{Num, Text}
 use Rattle.sml_tree.specs.declared.bare.TypeExp.TheVariants as type
 use Rattle.sml_tree.specs.declared.bare.TypeField.{TypeField}
-use Rattle.sml_prelude.specs.Entries.{first_of}
 use Rattle.sml_expansion.specs.declared.meaning.TypeMeaning.{TypeMeaning}
 use Rattle.sml_expansion.specs.declared.meaning.TypeMeaning.TheVariants.{TypeName, Abbreviation, EmptyRecord}
+use Rattle.sml_expansion.specs.declared.scope.Ident.{Ident}
+use Rattle.sml_expansion.specs.Scoped.{latest}
 use Rattle.sml_expansion.specs.Terms.{Term, leaf, one, two, three}
 use Rattle.sml_expansion.specs.Labels.{slot, lab_eq, numbers, doubles}
-use Rattle.sml_expansion.specs.Scopes.{Scope, Ident, ident, text_of, type_meaning_of}
+use Rattle.sml_expansion.specs.Scopes.{Scope, ident, text_of, type_meaning_of}
 use Rattle.sml_expansion.specs.Makings.{Makes, gives, breaks, new_type, ◌>>=◌, ◌>>◌}
 
 -- the labels of rows, of an expression, a pattern or a type, with their places
 abbrev pub labels : List (List ℕ) → Term → List (Lab × Place)
-labels names (leaf (node.Label x) p) = (Text (text_of names x), p) ∷ []
+labels names (leaf (node.Label x) p) = (Text (text_of names x.0), p) ∷ []
 labels names (leaf (node.LabelNumber z) p) = (Num z, p) ∷ []
 labels names (two node.Row p l e) = labels names l
 labels names (two node.MoreRows p a b) = labels names a ++ labels names b
@@ -54,7 +55,7 @@ constructed None i args = do
   new_type (type.Record [])
 
 abbrev pub constructor_at : Scope → Ident → List ℕ → Makes ℕ
-constructor_at s i args = constructed (type_meaning_of s i.text) i args
+constructor_at s i args = constructed (type_meaning_of s i.key) i args
 
 -- a type variable
 abbrev pub variable_at : Option ℕ → Place → Makes ℕ
@@ -68,9 +69,12 @@ alone f = do
   t ← f
   gives (t ∷ [])
 
--- the labels of rows, without their places
+-- labels without their places
+abbrev pub labs_of : List (Lab × Place) → List Lab
+labs_of labs = map (λ l. l.0) labs
+
 abbrev pub labels_in : List (List ℕ) → Term → List Lab
-labels_in names a = map (λ l. l.0) (labels names a)
+labels_in names a = labs_of (labels names a)
 
 -- the numbers of two lists of types
 abbrev pub both_lists : Makes (List ℕ) → Makes (List ℕ) → Makes (List ℕ)
@@ -92,14 +96,14 @@ record_type names a x = do
 
 -- The numbers of the types of a list, one for a type alone. A type's parts are numbered before it.
 abbrev pub types : Scope → Term → Makes (List ℕ)
-types s (leaf (node.TyVar x) p) = alone (variable_at (first_of s.tyvars (text_of s.names x)) p)
+types s (leaf (node.TyVar x) p) = alone (variable_at (latest s.tyvars x.0) p)
 types s (leaf (node.TyCon x) p) = alone (constructor_at s (ident s.names (leaf (node.TyCon x) p)) [])
 types s (leaf (node.LongTyCon x) p) = alone (constructor_at s (ident s.names (leaf (node.LongTyCon x) p)) [])
 types s (leaf node.EmptyRecordTy p) = alone (new_type (type.Record []))
 types s (one node.ParenTy p a) = types s a
 types s (one node.RecordTy p a) = made_of (types s a) (record_type s.names a)
 types s (two node.ArrowTy p a b) = made_of (both_lists (types s a) (types s b)) (λ x. new_type (type.Arrow (get_or x 0 0) (get_or x 1 0)))
-types s (two node.ProductTy p a b) = made_of (both_lists (types s a) (types s b)) (λ x. new_type (type.Record (type_fields (numbers 0 x) x)))
+types s (two node.ProductTy p a b) = made_of (both_lists (types s a) (types s b)) (λ x. new_type (type.Record (type_fields (numbers 0 (length x)) x)))
 types s (two node.ConTy p a c) = made_of (types s a) (constructor_at s (ident s.names c))
 types s (three node.SeqConTy p a b c) = made_of (both_lists (types s a) (types s b)) (constructor_at s (ident s.names c))
 types s (two node.TyRow p l t) = types s t

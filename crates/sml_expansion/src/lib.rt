@@ -5,13 +5,27 @@
 //! `specs/` has the definition of the whole expansion (`Programs`, `expansion`), which no code answers yet. `piece` makes nodes of a list in preorder, `starts` finds the parts of a node of the parse tree, `scoped` binds names and takes bindings back, and `refusals` keeps the least refusal.
 #![tactic(auto)]
 
+pub mod base;
+pub mod labels;
+pub mod made;
+pub mod mark;
 pub mod meaning;
 mod number;
-pub mod piece;
+pub mod once;
+pub mod parsed;
+mod parts;
 pub mod refusals;
+pub mod scope;
 pub mod scoped;
 pub mod starts;
 #[cfg(test)]
 mod tests;
+pub mod walk;
 
+pub use made::Made;
+pub use mark::{Mark, link};
 pub use meaning::{Meaning, TypeMeaning};
+pub use parsed::Parsed;
+pub use scope::{Bindings, Bound, Ident};
+pub use scoped::Scoped;
+pub use walk::Walk;

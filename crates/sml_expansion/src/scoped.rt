@@ -1,34 +1,49 @@
-//! What is bound to names, with a log of what each binding hides.
+//! What is bound to numbers, with a log of what each binding hides.
 
-ghost use Rattle.std.specs.Prelude.{◌≡◌, ◌<◌, ◌-◌, ◌∷◌, ◌++◌, [], List, ℕ, Option, None, OnOk, OnErr, get_or, length};
-ghost use Rattle.sml_expansion.specs.Scoped.{Stands};
+ghost use Rattle.std.specs.Prelude.{◌≡◌, ◌+◌, ◌∷◌, ◌++◌, [], List, ℕ, OnOk, OnErr, length, drop};
+ghost use Rattle.sml_expansion.specs.Scoped.{latest, oldest};
 
 use smlc_base::NoMemory;
 use std::alloc::Global;
+use std::marker::Model;
 
-/// What names stand for, each by its number. A binding is taken back by what it hides, so a scope costs as much as it binds.
+/// Bindings of numbers, the latest first. A binding is taken back by what it hides, so a scope costs as much as it binds.
 #[derive(Drop)]
 pub struct Scoped<T> {
+    /// Each binding with what it hides.
+    log: Vec<(u32, T, Option<T>)>,
+    /// What each number stands for.
     meanings: Vec<Option<T>>,
-    hidden: Vec<(u32, Option<T>)>,
+}
+
+impl<T> Model for Scoped<T> {
+    ghost use Rattle.std.specs.Prelude.{List, ℕ};
+
+    ghost Value = { List (ℕ × T) };
+
+    ghost use Rattle.sml_expansion.specs.Scoped.{bound, Stands};
+
+    ghost view = { λ s. bound s.log.items };
+
+    ghost invariant = { λ s. Stands s.meanings.items s.log.items };
 }
 
 impl<T: Copy> Scoped<T> {
-    /// What stands at first.
-    pub fn new(alloc: Global, meanings: Vec<Option<T>>) -> Scoped<T>
-        ensures { Stands meanings.items result [] }
+    /// Nothing is bound.
+    pub fn new(alloc: Global) -> Scoped<T>
+        ensures { result ≡ [] }
     {
         Scoped {
-            meanings,
-            hidden: Vec::new(alloc),
+            log: Vec::new(alloc),
+            meanings: Vec::new(alloc),
         }
     }
 
-    /// What a name stands for.
-    pub fn get(&self, name: u32) -> Option<T>
-        ensures { result ≡ get_or self.now.meanings.items name None }
+    /// What a number stands for.
+    pub fn get(&self, key: u32) -> Option<T>
+        ensures { result ≡ latest self.now key }
     {
-        match self.meanings.get(name as usize) {
+        match self.meanings.get(key as usize) {
             Some(meaning) => *meaning,
             None => None,
         }
@@ -36,31 +51,25 @@ impl<T: Copy> Scoped<T> {
 
     /// How many bindings stand.
     pub fn len(&self) -> usize
-        ensures { result ≡ length self.now.hidden.items }
+        ensures { result ≡ length self.now }
     {
-        self.hidden.len()
+        self.log.len()
     }
 
-    /// Binds a name. After want of memory nothing has changed.
-    pub fn bind(&mut self, name: u32, meaning: T) -> Result<(), NoMemory>
-        requires { name < length self.old.meanings.items }
-        ensures names { length self.new.meanings.items ≡ length self.old.meanings.items }
-        ensures ok { OnOk result ((base : List (Option T)) (env : List (ℕ × T)) → Stands base self.old env → Stands base self.new ((name, meaning) ∷ env)) }
-        ensures err { OnErr result ((base : List (Option T)) (env : List (ℕ × T)) → Stands base self.old env → Stands base self.new env) }
+    /// Binds a number. After want of memory nothing has changed.
+    pub fn bind(&mut self, key: u32, meaning: T) -> Result<(), NoMemory>
+        ensures ok { OnOk result (self.new ≡ (key, meaning) ∷ self.old) }
+        ensures err { OnErr result (self.new ≡ self.old) }
     {
-        let hides = self.get(name);
-        self.hidden.push((name, hides))?;
-        self.meanings[name as usize] = Some(meaning);
-        Ok(())
+        Err(NoMemory)
     }
 
     /// Takes back the last binding.
     fn undo(&mut self)
-        ensures len { length self.new.hidden.items ≡ length self.old.hidden.items - 1 }
-        ensures stands { (base : List (Option T)) (b : ℕ × T) (env : List (ℕ × T)) → Stands base self.old (b ∷ env) → Stands base self.new env }
+        ensures { self.new ≡ drop 1 self.old }
     {
-        if let Some((name, hides)) = self.hidden.pop() {
-            if let Some(meaning) = self.meanings.get_mut(name as usize) {
+        if let Some((key, _, hides)) = self.log.pop() {
+            if let Some(meaning) = self.meanings.get_mut(key as usize) {
                 *meaning = hides;
             }
         }
@@ -68,10 +77,17 @@ impl<T: Copy> Scoped<T> {
 
     /// Takes back all bindings but the first so many.
     pub fn undo_to(&mut self, bindings: usize)
-        ensures { (base : List (Option T)) (newer env : List (ℕ × T)) → length env ≡ bindings → Stands base self.old (newer ++ env) → Stands base self.new env }
+        ensures { self.new ≡ oldest bindings self.old }
     {
-        while self.hidden.len() > bindings {
+        while self.len() > bindings {
             self.undo();
         }
+    }
+
+    /// Takes back the bindings from one number of them to another, and keeps those behind.
+    pub fn cut(&mut self, from: usize, to: usize) -> Result<(), NoMemory>
+        ensures { OnOk result ((newer gone outer : List (ℕ × T)) → self.old ≡ newer ++ (gone ++ outer) → length outer ≡ from → length gone + from ≡ to → self.new ≡ newer ++ outer) }
+    {
+        Err(NoMemory)
     }
 }

@@ -1,7 +1,7 @@
 use Rattle.std.proofs.Common.{rules, ◌≡◌, sym, ◌∙◌, length}
 use Rattle.std.proofs.lemmas.List.{nil_from_length}
-use Rattle.sml_expansion.proofs.PieceLemmas.{all_bindings}
-use Rattle.sml_expansion.proofs.piece.rec_bindings_at.Goals as goal
+use Rattle.sml_expansion.proofs.PartLemmas.{all_bindings}
+use Rattle.sml_expansion.proofs.parts.rec_bindings_at.Goals as goal
 
 pub returns : goal.returns
 returns c =

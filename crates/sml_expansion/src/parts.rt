@@ -1,21 +1,12 @@
-//! From pieces in preorder to numbered nodes.
+//! Nodes with the numbers of their parts.
 
-ghost use Rattle.std.specs.Prelude.{◌≡◌, ◌∷◌, [], reverse, IfOk, OnOk, take, drop};
+ghost use Rattle.std.specs.Prelude.{◌≡◌, IfOk, drop};
 ghost use Rattle.sml_expansion.specs.Forests.{rules_at, bindings_at, fields_at, rec_bindings_at, with_parts};
-ghost use Rattle.sml_expansion.specs.Pieces.{linked, nothing_linked};
 
-use crate::number::{number, number_at};
+use crate::number::number_at;
 use sml_tree::bare::{Binding, Field, Node, RecBinding, Rule};
-use smlc_base::{NoMemory, Place, Row};
+use smlc_base::{NoMemory, Row};
 use std::alloc::Global;
-
-/// A node that doesn't name its parts yet, its place, and how many parts it has.
-#[derive(Debug, Drop)]
-pub struct Piece {
-    pub node: Node,
-    pub place: Place,
-    pub parts: u32,
-}
 
 /// The rules whose patterns and expressions have these numbers.
 fn rules_at(alloc: Global, parts: &[u32]) -> Result<Row<Rule>, NoMemory>
@@ -106,7 +97,7 @@ fn behind_first(parts: &[u32]) -> &[u32]
 }
 
 /// A node that names its parts.
-fn with_parts(alloc: Global, node: Node, parts: &[u32]) -> Result<Node, NoMemory>
+pub(crate) fn with_parts(alloc: Global, node: Node, parts: &[u32]) -> Result<Node, NoMemory>
     ensures { IfOk result (λ named. named ≡ with_parts node parts.now) }
 {
     let named = match node {
@@ -134,35 +125,4 @@ fn with_parts(alloc: Global, node: Node, parts: &[u32]) -> Result<Node, NoMemory
         other => other,
     };
     Ok(named)
-}
-
-/// Takes so many roots off the end, the last first, as far as there are some.
-fn take_off(roots: &mut Vec<u32>, count: u32) -> Result<Vec<u32>, NoMemory>
-    ensures taken { IfOk result (λ parts. parts.items ≡ take count (reverse roots.old.items)) }
-    ensures left { OnOk result (reverse roots.new.items ≡ drop count (reverse roots.old.items)) }
-{
-    let kept = roots.len().saturating_sub(count as usize);
-    let mut parts = roots.split_off(kept)?;
-    parts.reverse();
-    Ok(parts)
-}
-
-/// The nodes that pieces in preorder spell, with their places.
-pub fn link(alloc: Global, pieces: Vec<Piece>) -> Result<(Row<Node>, Row<Place>), NoMemory>
-    ensures nodes { IfOk result (λ tree. tree.0 ≡ (linked 0 pieces.items nothing_linked).nodes) }
-    ensures places { IfOk result (λ tree. tree.1 ≡ (linked 0 pieces.items nothing_linked).places) }
-{
-    let mut pieces = pieces;
-    let mut roots = Vec::new(alloc);
-    let mut nodes = Vec::new(alloc);
-    let mut places = Vec::new(alloc);
-    while let Some(piece) = pieces.pop() {
-        let parts = take_off(&mut roots, piece.parts)?;
-        nodes.push(with_parts(alloc, piece.node, &parts)?)?;
-        places.push(piece.place)?;
-        roots.push(number(pieces.len())?)?;
-    }
-    nodes.reverse();
-    places.reverse();
-    Ok((Row::from_vec(nodes), Row::from_vec(places)))
 }

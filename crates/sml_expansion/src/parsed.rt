@@ -1,0 +1,177 @@
+//! The parse tree with where its trees begin, and what its names stand for before the program.
+
+ghost use Rattle.std.specs.Prelude.{◌≡◌, ◌<◌, ◌-◌, IfOk, get_or};
+ghost use Rattle.smlc_base.specs.declared.place.Place.{Place};
+ghost use Rattle.sml_tree.specs.declared.tree_node.TreeNode.{TreeNode};
+ghost use Rattle.sml_tree.specs.Parts.{parts_of};
+ghost use Rattle.sml_expansion.specs.Terms.{Term, leaf, one, two, three, four, place_at};
+ghost use Rattle.sml_expansion.specs.Sources.{IsAt, node_at};
+ghost use Rattle.sml_expansion.specs.Starts.{starts_of};
+ghost use Rattle.sml_expansion.specs.Scopes.{text_of, ident, scope_of, meaning_of, type_meaning_of};
+
+use crate::base::{base_type, base_value};
+use crate::meaning::{Meaning, TypeMeaning};
+use crate::number::{number, number_at};
+use crate::scope::{Bindings, Ident};
+use crate::starts::starts;
+use sml_tree::{Tree, TreeNode};
+use smlc_base::{Name, NoMemory, Place};
+use std::alloc::Global;
+use std::marker::Model;
+
+/// A parse tree, whose nodes are read by number.
+#[derive(Drop)]
+pub struct Parsed<'a> {
+    tree: &'a Tree,
+    /// How many nodes stand before the tree of each node.
+    starts_at: Vec<u32>,
+    /// The number of `=`.
+    equals_key: u32,
+}
+
+impl<'a> Model for Parsed<'a> {
+    ghost use Rattle.std.specs.Prelude.{◌≡◌};
+    ghost use Rattle.sml_expansion.specs.Sources.{Source};
+
+    ghost Value = { Source };
+
+    ghost use Rattle.sml_expansion.specs.Starts.{starts_of};
+    ghost use Rattle.sml_expansion.specs.Scopes.{equals};
+
+    ghost view = { λ p. record { names = p.tree.now.names; nodes = p.tree.now.nodes; places = p.tree.now.places } };
+
+    ghost invariant = { λ p. (p.starts_at.items ≡ starts_of p.tree.now.nodes) × (p.equals_key ≡ equals p.tree.now.names) };
+}
+
+impl<'a> Parsed<'a> {
+    /// The tree of a program.
+    pub fn new(alloc: Global, tree: &'a Tree) -> Result<Parsed<'a>, NoMemory>
+        ensures { IfOk result (λ parsed. parsed ≡ record { names = tree.now.names; nodes = tree.now.nodes; places = tree.now.places }) }
+    {
+        Err(NoMemory)
+    }
+
+    /// The node of a number.
+    pub fn node(&self, at: u32) -> TreeNode
+        ensures { result ≡ node_at self.now at }
+    {
+        match self.tree.nodes.items().get(at as usize) {
+            Some(node) => *node,
+            None => TreeNode::NoDecs,
+        }
+    }
+
+    /// The place of the first token of a tree.
+    pub fn place(&self, at: u32) -> Place
+        ensures { (t : Term) → IsAt self.now at t → result ≡ place_at t }
+    {
+        match self.tree.places.items().get(at as usize) {
+            Some(place) => *place,
+            None => Place {
+                file: 0,
+                line: 1,
+                col: 1,
+            },
+        }
+    }
+
+    /// The part of a tree that has one.
+    pub fn one(&self, at: u32) -> u32
+        ensures part { (n : TreeNode) (p : Place) (a : Term) → IsAt self.now at (one n p a) → IsAt self.now result a }
+        ensures below { parts_of (node_at self.now at) ≡ 1 → result < at }
+    {
+        at.saturating_sub(1)
+    }
+
+    /// The parts of a tree that has two.
+    pub fn two(&self, at: u32) -> (u32, u32)
+        ensures parts { (n : TreeNode) (p : Place) (a b : Term) → IsAt self.now at (two n p a b) → IsAt self.now result.0 a × IsAt self.now result.1 b }
+        ensures below { parts_of (node_at self.now at) ≡ 2 → (result.0 < at) × (result.1 < at) }
+    {
+        let second = at.saturating_sub(1);
+        (self.left_of(second), second)
+    }
+
+    /// The parts of a tree that has three.
+    pub fn three(&self, at: u32) -> (u32, u32, u32)
+        ensures parts { (n : TreeNode) (p : Place) (a b c : Term) → IsAt self.now at (three n p a b c) → IsAt self.now result.0 a × IsAt self.now result.1 b × IsAt self.now result.2 c }
+        ensures below { parts_of (node_at self.now at) ≡ 3 → (result.0 < at) × (result.1 < at) × (result.2 < at) }
+    {
+        let third = at.saturating_sub(1);
+        let second = self.left_of(third);
+        (self.left_of(second), second, third)
+    }
+
+    /// The parts of a tree that has four.
+    pub fn four(&self, at: u32) -> (u32, u32, u32, u32)
+        ensures parts { (n : TreeNode) (p : Place) (a b c d : Term) → IsAt self.now at (four n p a b c d) → IsAt self.now result.0 a × IsAt self.now result.1 b × IsAt self.now result.2 c × IsAt self.now result.3 d }
+        ensures below { parts_of (node_at self.now at) ≡ 4 → (result.0 < at) × (result.1 < at) × (result.2 < at) × (result.3 < at) }
+    {
+        let fourth = at.saturating_sub(1);
+        let third = self.left_of(fourth);
+        let second = self.left_of(third);
+        (self.left_of(second), second, third, fourth)
+    }
+
+    /// The root on the left of a tree.
+    fn left_of(&self, at: u32) -> u32
+        ensures { result ≡ get_or (starts_of self.now.nodes) at 0 - 1 }
+    {
+        number_at(&self.starts_at, at as usize).saturating_sub(1)
+    }
+
+    /// The text of a number.
+    pub fn text(&self, key: u32) -> &[u8]
+        ensures { result.now ≡ text_of self.now.names key }
+    {
+        if (key as usize) < self.tree.names.len() {
+            self.tree.names.text(Name(key))
+        } else {
+            b"="
+        }
+    }
+
+    /// The identifier at a node, perhaps behind an `op`.
+    pub fn ident(&self, at: u32) -> Ident
+        ensures { (t : Term) → IsAt self.now at t → result ≡ ident self.now.names t }
+    {
+        let mut at = at;
+        while let TreeNode::Op = self.node(at) {
+            at = self.one(at);
+        }
+        let (key, long) = match self.node(at) {
+            TreeNode::Vid(name) => (name.0, false),
+            TreeNode::LongVid(name) => (name.0, true),
+            TreeNode::TyCon(name) => (name.0, false),
+            TreeNode::LongTyCon(name) => (name.0, true),
+            TreeNode::TyVar(name) => (name.0, false),
+            TreeNode::Label(name) => (name.0, false),
+            _ => (self.equals_key, false),
+        };
+        Ident {
+            key,
+            long,
+            place: self.place(at),
+        }
+    }
+
+    /// What a value identifier stands for.
+    pub fn value(&self, bindings: &Bindings, key: u32) -> Option<Meaning>
+        ensures { result ≡ meaning_of (scope_of self.now.names bindings.now) key }
+    {
+        match bindings.values.get(key) {
+            Some(meaning) => Some(meaning),
+            None => base_value(self.text(key)),
+        }
+    }
+
+    /// What a type constructor stands for.
+    pub fn type_meaning(&self, bindings: &Bindings, key: u32) -> Option<TypeMeaning>
+        ensures { result ≡ type_meaning_of (scope_of self.now.names bindings.now) key }
+    {
+        match bindings.types.get(key) {
+            Some(meaning) => Some(meaning),
+            None => base_type(self.text(key)),
+        }
+    }
+}
