@@ -1,4 +1,8 @@
+pub mod MakingLemmas
+pub mod MarkLemmas
 mod PartLemmas
 mod ReverseLemmas
+pub mod ScopedLemmas
+pub mod Shapes
 mod StartLemmas
 pub mod TreeLemmas

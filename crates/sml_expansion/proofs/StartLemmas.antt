@@ -22,7 +22,7 @@ pub back : (starts : List ℕ) (k n j : ℕ) → slice_get starts n ≡ Some j �
 back starts k n j h = ap (before starts k) (get_or_from_slice_get starts n j 0 h)
 
 -- no tree begins behind its root
-abbrev IsBounded : List ℕ → Type 0
+abbrev pub IsBounded : List ℕ → Type 0
 IsBounded starts = (i : ℕ) → get_or starts i 0 ≤ i
 
 before_bounded : (starts : List ℕ) → IsBounded starts → (k n : ℕ) → before starts k n ≤ n
@@ -122,6 +122,15 @@ all_known known (n ∷ nodes) h =
 nothing_bounded : IsBounded []
 nothing_bounded zero = omega arith
 nothing_bounded (suc i) = omega arith
+
+bounded_behind : (known : List ℕ) (nodes : List TreeNode) → IsBounded known → IsBounded (starts_behind known nodes)
+bounded_behind known [] h = h
+bounded_behind known (n ∷ nodes) h =
+    let b : before known (parts_of n) (length known) ≤ length known = before_bounded known h (parts_of n) (length known) in
+    bounded_behind (known ++ before known (parts_of n) (length known) ∷ []) nodes (bounded_one_more known (before known (parts_of n) (length known)) h b)
+
+pub starts_bounded : (nodes : List TreeNode) → IsBounded (starts_of nodes)
+starts_bounded nodes = bounded_behind [] nodes nothing_bounded
 
 -- what the number of nodes before each node's tree is, by the same numbers
 pub says_starts : (nodes : List TreeNode) (i : ℕ) (n : TreeNode) → slice_get nodes i ≡ Some n → slice_get (starts_of nodes) i ≡ Some (before (starts_of nodes) (parts_of n) i)

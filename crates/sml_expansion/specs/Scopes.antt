@@ -1,8 +1,8 @@
 -- What identifiers stand for. An identifier is named by the number of its text among the names of the program, of which no two are equal.
 use Rattle.std.specs.Prelude.{ℕ, suc, Bool, true, false, if◌then◌else◌, List, [], ◌∷◌, ◌++◌, Option, Some, None, bytes_eq, slice_get, codes, unwrap_or}
 use Rattle.std.specs.List.{list_any}
-use Rattle.smlc_base.specs.declared.place.Place.{Place}
-use Rattle.sml_tree.specs.declared.tree_node.TreeNode.TheVariants as leaf
+use Rattle.sml_tree.specs.declared.tree_node.TreeNode.{TreeNode}
+use Rattle.sml_tree.specs.declared.tree_node.TreeNode.TheVariants as node
 use Rattle.sml_prelude.specs.declared.values.Value.{Value}
 use Rattle.sml_prelude.specs.declared.values.Value.TheVariants as base
 use Rattle.sml_prelude.specs.declared.types.BaseType.{BaseType}
@@ -18,7 +18,7 @@ use Rattle.sml_expansion.specs.declared.scope.Ident.{Ident}
 use Rattle.sml_expansion.specs.declared.scope.Bindings.{Bindings}
 use Rattle.sml_expansion.specs.Scoped.{latest}
 use Rattle.sml_expansion.specs.Terms as term
-use Rattle.sml_expansion.specs.Terms.{Term, place_at}
+use Rattle.sml_expansion.specs.Terms.{Term, node_of, place_at}
 
 -- What declarations bind, the latest first.
 pub record Env : Type 0 where
@@ -85,17 +85,25 @@ meaning_of s x = or_else (latest s.env.values x) (base_value (text_of s.names x)
 abbrev pub type_meaning_of : Scope → ℕ → Option TypeMeaning
 type_meaning_of s x = or_else (latest s.env.types x) (base_type (text_of s.names x))
 
--- The identifier at a node, perhaps behind an `op`, with the place of its token.
+-- the number of the text of an identifier's node; what is no identifier counts as `=`
+abbrev pub key_of : List (List ℕ) → TreeNode → ℕ
+key_of names (node.Vid x) = x.0
+key_of names (node.LongVid x) = x.0
+key_of names (node.TyCon x) = x.0
+key_of names (node.LongTyCon x) = x.0
+key_of names (node.TyVar x) = x.0
+key_of names (node.Label x) = x.0
+key_of names _ = equals names
+
+abbrev pub is_long : TreeNode → Bool
+is_long (node.LongVid x) = true
+is_long (node.LongTyCon x) = true
+is_long _ = false
+
+-- the identifier at a node, perhaps behind an `op`, with the place of its token
 abbrev pub ident : List (List ℕ) → Term → Ident
-ident names (term.leaf (leaf.Vid x) p) = record { key = x.0; long = false; place = p }
-ident names (term.leaf leaf.VidEquals p) = record { key = equals names; long = false; place = p }
-ident names (term.leaf (leaf.LongVid x) p) = record { key = x.0; long = true; place = p }
-ident names (term.leaf (leaf.TyCon x) p) = record { key = x.0; long = false; place = p }
-ident names (term.leaf (leaf.LongTyCon x) p) = record { key = x.0; long = true; place = p }
-ident names (term.leaf (leaf.TyVar x) p) = record { key = x.0; long = false; place = p }
-ident names (term.leaf (leaf.Label x) p) = record { key = x.0; long = false; place = p }
-ident names (term.one leaf.Op p a) = ident names a
-ident names t = record { key = equals names; long = false; place = place_at t }
+ident names (term.one node.Op p a) = ident names a
+ident names t = record { key = key_of names (node_of t); long = is_long (node_of t); place = place_at t }
 
 -- `true false nil :: ref` and `=`, which aren't bound again
 abbrev pub is_fixed : List ℕ → Bool

@@ -1,13 +1,13 @@
 //! The parse tree with where its trees begin, and what its names stand for before the program.
 
-ghost use Rattle.std.specs.Prelude.{◌≡◌, ◌<◌, ◌-◌, IfOk, get_or};
+ghost use Rattle.std.specs.Prelude.{◌≡◌, ◌<◌, ◌≤◌, ◌-◌, IfOk, get_or};
 ghost use Rattle.smlc_base.specs.declared.place.Place.{Place};
 ghost use Rattle.sml_tree.specs.declared.tree_node.TreeNode.{TreeNode};
 ghost use Rattle.sml_tree.specs.Parts.{parts_of};
 ghost use Rattle.sml_expansion.specs.Terms.{Term, leaf, one, two, three, four, place_at};
 ghost use Rattle.sml_expansion.specs.Sources.{IsAt, node_at};
 ghost use Rattle.sml_expansion.specs.Starts.{starts_of};
-ghost use Rattle.sml_expansion.specs.Scopes.{text_of, ident, scope_of, meaning_of, type_meaning_of};
+ghost use Rattle.sml_expansion.specs.Scopes.{text_of, key_of, is_long, ident, scope_of, meaning_of, type_meaning_of};
 
 use crate::base::{base_type, base_value};
 use crate::meaning::{Meaning, TypeMeaning};
@@ -80,6 +80,7 @@ impl<'a> Parsed<'a> {
         ensures part { (n : TreeNode) (p : Place) (a : Term) → IsAt self.now at (one n p a) → IsAt self.now result a }
         ensures below { parts_of (node_at self.now at) ≡ 1 → result < at }
     {
+        let _ = &self.tree;
         at.saturating_sub(1)
     }
 
@@ -88,6 +89,7 @@ impl<'a> Parsed<'a> {
         ensures parts { (n : TreeNode) (p : Place) (a b : Term) → IsAt self.now at (two n p a b) → IsAt self.now result.0 a × IsAt self.now result.1 b }
         ensures below { parts_of (node_at self.now at) ≡ 2 → (result.0 < at) × (result.1 < at) }
     {
+        let _ = &self.tree;
         let second = at.saturating_sub(1);
         (self.left_of(second), second)
     }
@@ -97,6 +99,7 @@ impl<'a> Parsed<'a> {
         ensures parts { (n : TreeNode) (p : Place) (a b c : Term) → IsAt self.now at (three n p a b c) → IsAt self.now result.0 a × IsAt self.now result.1 b × IsAt self.now result.2 c }
         ensures below { parts_of (node_at self.now at) ≡ 3 → (result.0 < at) × (result.1 < at) × (result.2 < at) }
     {
+        let _ = &self.tree;
         let third = at.saturating_sub(1);
         let second = self.left_of(third);
         (self.left_of(second), second, third)
@@ -107,6 +110,7 @@ impl<'a> Parsed<'a> {
         ensures parts { (n : TreeNode) (p : Place) (a b c d : Term) → IsAt self.now at (four n p a b c d) → IsAt self.now result.0 a × IsAt self.now result.1 b × IsAt self.now result.2 c × IsAt self.now result.3 d }
         ensures below { parts_of (node_at self.now at) ≡ 4 → (result.0 < at) × (result.1 < at) × (result.2 < at) × (result.3 < at) }
     {
+        let _ = &self.tree;
         let fourth = at.saturating_sub(1);
         let third = self.left_of(fourth);
         let second = self.left_of(third);
@@ -115,7 +119,8 @@ impl<'a> Parsed<'a> {
 
     /// The root on the left of a tree.
     fn left_of(&self, at: u32) -> u32
-        ensures { result ≡ get_or (starts_of self.now.nodes) at 0 - 1 }
+        ensures is { result ≡ get_or (starts_of self.now.nodes) at 0 - 1 }
+        ensures behind { result ≤ at }
     {
         number_at(&self.starts_at, at as usize).saturating_sub(1)
     }
@@ -139,19 +144,26 @@ impl<'a> Parsed<'a> {
         while let TreeNode::Op = self.node(at) {
             at = self.one(at);
         }
-        let (key, long) = match self.node(at) {
-            TreeNode::Vid(name) => (name.0, false),
-            TreeNode::LongVid(name) => (name.0, true),
-            TreeNode::TyCon(name) => (name.0, false),
-            TreeNode::LongTyCon(name) => (name.0, true),
-            TreeNode::TyVar(name) => (name.0, false),
-            TreeNode::Label(name) => (name.0, false),
-            _ => (self.equals_key, false),
-        };
+        let node = self.node(at);
         Ident {
-            key,
-            long,
+            key: self.key_of(node),
+            long: is_long(node),
             place: self.place(at),
+        }
+    }
+
+    /// The number of the text of an identifier's node.
+    fn key_of(&self, node: TreeNode) -> u32
+        ensures { result ≡ key_of self.now.names node }
+    {
+        match node {
+            TreeNode::Vid(name) => name.0,
+            TreeNode::LongVid(name) => name.0,
+            TreeNode::TyCon(name) => name.0,
+            TreeNode::LongTyCon(name) => name.0,
+            TreeNode::TyVar(name) => name.0,
+            TreeNode::Label(name) => name.0,
+            _ => self.equals_key,
         }
     }
 
@@ -173,5 +185,16 @@ impl<'a> Parsed<'a> {
             Some(meaning) => Some(meaning),
             None => base_type(self.text(key)),
         }
+    }
+}
+
+/// Whether an identifier's node is that of a long one.
+fn is_long(node: TreeNode) -> bool
+    ensures { result ≡ is_long node }
+{
+    match node {
+        TreeNode::LongVid(_) => true,
+        TreeNode::LongTyCon(_) => true,
+        _ => false,
     }
 }

@@ -1,6 +1,6 @@
 //! What is bound to numbers, with a log of what each binding hides.
 
-ghost use Rattle.std.specs.Prelude.{◌≡◌, ◌+◌, ◌∷◌, ◌++◌, [], List, ℕ, OnOk, OnErr, length, drop};
+ghost use Rattle.std.specs.Prelude.{◌≡◌, ◌-◌, ◌∷◌, ◌++◌, [], OnOk, OnErr, length, drop, take};
 ghost use Rattle.sml_expansion.specs.Scoped.{latest, oldest};
 
 use smlc_base::NoMemory;
@@ -86,7 +86,7 @@ impl<T: Copy> Scoped<T> {
 
     /// Takes back the bindings from one number of them to another, and keeps those behind.
     pub fn cut(&mut self, from: usize, to: usize) -> Result<(), NoMemory>
-        ensures { OnOk result ((newer gone outer : List (ℕ × T)) → self.old ≡ newer ++ (gone ++ outer) → length outer ≡ from → length gone + from ≡ to → self.new ≡ newer ++ outer) }
+        ensures { OnOk result (self.new ≡ take (length self.old - to) self.old ++ oldest from self.old) }
     {
         Err(NoMemory)
     }
