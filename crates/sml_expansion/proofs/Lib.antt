@@ -1,5 +1,6 @@
 pub mod MakingLemmas
 pub mod MarkLemmas
+mod NameLemmas
 mod PartLemmas
 mod ReverseLemmas
 pub mod ScopedLemmas

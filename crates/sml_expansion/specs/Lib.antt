@@ -5,6 +5,7 @@ pub mod Clauses
 pub mod Expressions
 pub mod Forests
 pub mod Labels
+pub mod Linking
 pub mod Makings
 pub mod Patterns
 pub mod Marks

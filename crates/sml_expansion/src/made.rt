@@ -55,7 +55,11 @@ impl Made {
     pub fn new_names(&mut self, text: &[u8], count: u32) -> Result<Vec<u32>, NoMemory>
         ensures { IfOk result (λ names. Runs (new_names text.now count) self.old names.items self.new) }
     {
-        Err(NoMemory)
+        let mut names = Vec::new(self.allocator());
+        for _ in 0..count {
+            names.push(self.new_name(text)?)?;
+        }
+        Ok(names)
     }
 
     /// A type as it is written.
