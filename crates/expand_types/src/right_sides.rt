@@ -14,14 +14,11 @@ use smlc_base::Refusal;
 pub fn is_typed_fn(parsed: &Parsed, at: u32) -> bool
     ensures { (t : Term) → IsAt parsed.now at t → result ≡ is_typed_fn t }
 {
-    let mut at = at;
-    loop {
-        match parsed.node(at) {
-            TreeNode::Paren => at = parsed.one(at),
-            TreeNode::Typed => at = parsed.two(at).0,
-            TreeNode::Fn => return true,
-            _ => return false,
-        }
+    match parsed.node(at) {
+        TreeNode::Fn => true,
+        TreeNode::Paren => is_typed_fn(parsed, parsed.one(at)),
+        TreeNode::Typed => is_typed_fn(parsed, parsed.two(at).0),
+        _ => false,
     }
 }
 
