@@ -1,5 +1,6 @@
 -- Nodes by what a walk does at them.
-use Rattle.std.specs.Prelude.{Bool, true, false}
+use Rattle.std.specs.Prelude.{Bool, true, false, nat_lt}
+use Rattle.sml_tree.specs.Parts.{parts_of}
 use Rattle.sml_tree.specs.declared.tree_node.TreeNode.{TreeNode}
 use Rattle.sml_tree.specs.declared.tree_node.TreeNode.TheVariants as node
 use Rattle.expand_types.specs.declared.labels.RowForm.{RowForm}
@@ -25,3 +26,11 @@ row_form node.PunRowAs = FirstOfTwo
 row_form node.TyRow = FirstOfTwo
 row_form node.TypedPunRowAs = FirstOfThree
 row_form _ = Here
+
+-- whether a node has parts whose type variables belong to the phrase around it
+abbrev pub opens_up : TreeNode → Bool
+opens_up node.Val = false
+opens_up node.Fun = false
+opens_up node.Type = false
+opens_up node.Datatype = false
+opens_up n = nat_lt 0 (parts_of n)

@@ -1,2 +1,2 @@
-pub mod Declared
+pub mod Effects
 pub mod Forms

@@ -5,7 +5,7 @@ ghost use Rattle.sml_expansion.specs.Terms.{Term};
 ghost use Rattle.sml_expansion.specs.Sources.{IsAt};
 ghost use Rattle.sml_expansion.specs.Scopes.{scope_of};
 ghost use Rattle.sml_expansion.specs.Bindings.{exception_dec};
-ghost use Rattle.expand_types.specs.Declared.{declared};
+ghost use Rattle.expand_types.specs.Effects.{declared};
 
 use sml_expansion::{Parsed, Walk};
 use smlc_base::{NoMemory, Place};

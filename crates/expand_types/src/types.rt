@@ -34,7 +34,7 @@ fn is_type_list(node: TreeNode) -> bool
 }
 
 /// The number of the type alone.
-fn alone(alloc: Global, number: u32) -> Result<Vec<u32>, NoMemory>
+pub(crate) fn alone(alloc: Global, number: u32) -> Result<Vec<u32>, NoMemory>
     ensures { IfOk result (λ numbers. numbers.items ≡ number ∷ []) }
 {
     let mut numbers = Vec::new(alloc);
@@ -53,7 +53,7 @@ fn number_at(numbers: &[u32], at: usize) -> u32
 }
 
 /// The numbers of two lists.
-fn joined(first: Vec<u32>, second: &[u32]) -> Result<Vec<u32>, NoMemory>
+pub(crate) fn joined(first: Vec<u32>, second: &[u32]) -> Result<Vec<u32>, NoMemory>
     ensures { IfOk result (λ numbers. numbers.items ≡ first.items ++ second.now) }
 {
     let mut numbers = first;

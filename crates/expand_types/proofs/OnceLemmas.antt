@@ -1,0 +1,1 @@
+-- Each of some keys once.
