@@ -1,3 +1,4 @@
+pub mod AnnotationLemmas
 pub mod FlowLemmas
 pub mod OnceLemmas
 pub mod RowLemmas

@@ -7,7 +7,9 @@ ghost use Rattle.sml_expansion.specs.Scopes.{scope_of};
 ghost use Rattle.sml_expansion.specs.Makings.{Runs};
 ghost use Rattle.sml_expansion.specs.Bindings.{annotations};
 
+use crate::types::{alone, joined, type_of};
 use sml_expansion::{Bindings, Made, Parsed};
+use sml_tree::TreeNode;
 use smlc_base::NoMemory;
 
 /// The types of a pattern, the outermost first. They are numbered in the order of the text.
@@ -19,5 +21,12 @@ pub fn annotations(
 ) -> Result<Vec<u32>, NoMemory>
     ensures { IfOk result (λ numbers. (t : Term) → IsAt parsed.now at t → Runs (annotations (scope_of parsed.now.names bindings.now) t) made.old numbers.items made.new) }
 {
-    Err(NoMemory)
+    if let TreeNode::TypedPat = parsed.node(at) {
+        let (pat, ty) = parsed.two(at);
+        let inner = annotations(parsed, bindings, made, pat)?;
+        let number = type_of(parsed, bindings, made, ty)?;
+        joined(alone(made.allocator(), number)?, &inner)
+    } else {
+        Ok(Vec::new(made.allocator()))
+    }
 }

@@ -1,18 +1,19 @@
 //! Type variables: those that are named, those that occur, and those that a declaration binds.
 
-ghost use Rattle.std.specs.Prelude.{◌≡◌, ◌≢◌, ◌++◌, [], ◌<◌, ℕ, List, true, IfOk, OnOk, map, filter, reverse};
+ghost use Rattle.std.specs.Prelude.{◌≡◌, ◌≢◌, ◌∷◌, ◌++◌, [], ◌<◌, ℕ, List, true, ◌||◌, if◌then◌else◌, is_none, IfOk, OnOk, map, filter, reverse};
 ghost use Rattle.smlc_base.specs.declared.place.Place.{Place};
 ghost use Rattle.smlc_base.specs.declared.refusal.Refusal.TheVariants as refusal;
 ghost use Rattle.sml_tree.specs.declared.tree_node.TreeNode.TheVariants as tree;
 ghost use Rattle.sml_expansion.specs.Terms.{Term, leaf};
 ghost use Rattle.sml_expansion.specs.Sources.{IsAt, node_at};
 ghost use Rattle.sml_expansion.specs.Scopes.{scope_of};
+ghost use Rattle.sml_expansion.specs.Scoped.{latest};
 ghost use Rattle.sml_expansion.specs.Makings.{Runs, breaks};
-ghost use Rattle.sml_expansion.specs.TypeVariables.{tyvars, unguarded, opens, params, numbers_of, keys_of, once, new_tyvars, bound_again};
+ghost use Rattle.sml_expansion.specs.TypeVariables.{tyvars, unguarded, opens, params, numbers_of, keys_of, once, stands, new_tyvars, bound_again};
 ghost use Rattle.expand_types.specs.Forms.{opens_up};
 
 use sml_expansion::once::idents_once;
-use sml_expansion::{Bindings, Ident, Made, Parsed};
+use sml_expansion::{Bindings, Ident, Made, Parsed, Scoped};
 use sml_tree::TreeNode;
 use smlc_base::{NoMemory, Place, Refusal, Row};
 use std::alloc::Global;
@@ -233,5 +234,51 @@ fn new_keys(
 ) -> Result<Vec<u32>, NoMemory>
     ensures { IfOk result (λ keys. keys.items ≡ once [] (keys_of explicit.now) ++ once (keys_of explicit.now ++ map (λ v. v.0) bindings.now.tyvars) occurring.now) }
 {
-    Err(NoMemory)
+    let named = keys_of(alloc, explicit)?;
+    let unbound = unbound(bindings, alloc, occurring)?;
+    let mut keys = Vec::new(alloc);
+    let mut seen = Scoped::new(alloc);
+    push_each_once(&mut seen, &mut keys, &named)?;
+    push_each_once(&mut seen, &mut keys, &unbound)?;
+    Ok(keys)
+}
+
+/// The keys that aren't bound.
+fn unbound(bindings: &Bindings, alloc: Global, keys: &[u32]) -> Result<Vec<u32>, NoMemory>
+    ensures { IfOk result (λ left. left.items ≡ filter (λ x. is_none (latest bindings.now.tyvars x)) keys.now) }
+{
+    let mut left = Vec::new(alloc);
+    for key in keys {
+        if bindings.tyvars.get(*key).is_none() {
+            left.push(*key)?;
+        }
+    }
+    Ok(left)
+}
+
+/// Each of the keys that aren't seen puts itself last, once.
+fn push_each_once(
+    seen: &mut Scoped<bool>,
+    keys: &mut Vec<u32>,
+    more: &[u32],
+) -> Result<(), NoMemory>
+    ensures keys { OnOk result (keys.new.items ≡ keys.old.items ++ once (map (λ v. v.0) seen.old) more.now) }
+    ensures seen { OnOk result ((x : ℕ) → stands (map (λ v. v.0) seen.new) x ≡ (stands more.now x || stands (map (λ v. v.0) seen.old) x)) }
+{
+    for key in more {
+        push_once(seen, keys, *key)?;
+    }
+    Ok(())
+}
+
+/// A key that isn't seen.
+fn push_once(seen: &mut Scoped<bool>, keys: &mut Vec<u32>, key: u32) -> Result<(), NoMemory>
+    ensures keys { OnOk result (keys.new.items ≡ (if is_none (latest seen.old key) then keys.old.items ++ key ∷ [] else keys.old.items)) }
+    ensures seen { OnOk result (seen.new ≡ (if is_none (latest seen.old key) then (key, true) ∷ seen.old else seen.old)) }
+{
+    if seen.get(key).is_none() {
+        keys.push(key)?;
+        seen.bind(key, true)?;
+    }
+    Ok(())
 }
