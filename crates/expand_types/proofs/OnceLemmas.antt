@@ -1,5 +1,7 @@
 -- Each of some keys once.
-use Rattle.std.proofs.Common.{◌≡◌, ◌≢◌, ◌<◌, ◌≤◌, ℕ, suc, Bool, true, false, not, ◌||◌, cond, List, [], ◌∷◌, ◌++◌, Option, Some, None, map, filter, length, get_or, take, drop, refl, sym, ap, ◌∙◌, subst, append_assoc, eq-eqb, ne_eqb, rules, tests}
+use Rattle.std.proofs.Common.{◌≡◌, ◌≢◌, ◌<◌, ◌≤◌, ℕ, suc, Bool, true, false, not, ◌||◌, cond, List, [], ◌∷◌, ◌++◌, Option, Some, None, map, filter, length, get_or, take, drop, refl, sym, ap, ◌∙◌, subst, append_assoc, eq-eqb, ne_eqb, add-one, ◌+◌, rules, tests}
+use Rattle.std.proofs.lemmas.List.{take_more}
+use Rattle.std.proofs.Math.Seq.{drop-cons}
 use Rattle.std.specs.Prelude.{if◌then◌else◌, is_none, nat_eq}
 use Rattle.std.proofs.lemmas.List.Folds.{list_any-append}
 use Rattle.sml_expansion.specs.Scoped.{latest}
@@ -48,9 +50,6 @@ once_apart s env (k ∷ ks) =
     step false false is e f = e
 
 -- one key further
-abbrev pub Onward : {T : Type 0} → List (ℕ × T) → List ℕ → List ℕ → List (ℕ × T) → List ℕ → List ℕ → Type 0
-Onward seen keys more seen' keys' left = (keys' ++ once (map (λ v. v.0) seen') left ≡ keys ++ once (map (λ v. v.0) seen) more)
-
 pub pushed : {T : Type 0} (y : T) (seen seen' : List (ℕ × T)) (keys keys' : List ℕ) (k : ℕ) (left : List ℕ) → keys' ≡ (if is_none (latest seen k) then keys ++ k ∷ [] else keys) → seen' ≡ (if is_none (latest seen k) then (k, y) ∷ seen else seen)
     → keys' ++ once (map (λ v. v.0) seen') left ≡ keys ++ once (map (λ v. v.0) seen) (k ∷ left)
 pushed y seen seen' keys keys' k left e f = ap (λ q. q ++ once (map (λ v. v.0) seen') left) e ∙ ap (λ q. (if is_none (latest seen k) then keys ++ k ∷ [] else keys) ++ once (map (λ v. v.0) q) left) f
@@ -66,6 +65,34 @@ seen_more y seen seen' k x f = ap (λ q. stands (map (λ v. v.0) q) x) f ∙ ste
     within : (b : Bool) → nat_eq x k ≡ b → stands (map (λ v. v.0) seen) k ≡ true → stands (map (λ v. v.0) seen) x ≡ (b || stands (map (λ v. v.0) seen) x)
     within true e h = let same : x ≡ k = search (rules, tests) in ap (stands (map (λ v. v.0) seen)) same ∙ h
     within false e h = refl
+
     step : (q : Bool) → stands (map (λ v. v.0) seen) k ≡ not q → stands (map (λ v. v.0) (if q then (k, y) ∷ seen else seen)) x ≡ (nat_eq x k || stands (map (λ v. v.0) seen) x)
     step true h = refl
     step false h = within (nat_eq x k) refl h
+
+pub seen_on : (more : List ℕ) (i x : ℕ) (a b r : Bool) → i < length more → a ≡ (nat_eq x (get_or more i 0) || b) → b ≡ (stands (take i more) x || r) → a ≡ (stands (take (i + 1) more) x || r)
+seen_on more i x a b r inside e f =
+    e ∙ ap (λ q. nat_eq x (get_or more i 0) || q) f ∙ turn (nat_eq x (get_or more i 0)) (stands (take i more) x) r
+    ∙ ap (λ q. q || r) (sym (ap (λ ks. stands ks x) (take_more more i 0 inside) ∙ list_any-append (nat_eq x) (take i more) (get_or more i 0 ∷ [])))
+  where
+    turn : (p q s : Bool) → (p || (q || s)) ≡ ((q || (p || false)) || s)
+    turn true true s = refl
+    turn true false s = refl
+    turn false true s = refl
+    turn false false s = refl
+
+pub keys_on : (seen seen' keys keys' more first : List ℕ) (i : ℕ) → i < length more → keys' ++ once seen' (drop (suc i) more) ≡ keys ++ once seen (get_or more i 0 ∷ drop (suc i) more) → keys ++ once seen (drop i more) ≡ first → keys' ++ once seen' (drop (i + 1) more) ≡ first
+keys_on seen seen' keys keys' more first i inside step before =
+    ap (λ j. keys' ++ once seen' (drop j more)) (add-one i) ∙ step ∙ ap (λ ks. keys ++ once seen ks) (sym (drop-cons more i 0 inside)) ∙ before
+
+pub all_keys : {T U : Type 0} (seen seen' : List (ℕ × T)) (vars : List (ℕ × U)) (none first all named left given occurring : List ℕ) → none ≡ [] → seen ≡ [] → first ≡ none ++ once (map (λ v. v.0) seen) named
+    → ((x : ℕ) → stands (map (λ v. v.0) seen') x ≡ (stands named x || stands (map (λ v. v.0) seen) x)) → all ≡ first ++ once (map (λ v. v.0) seen') left
+    → left ≡ filter (λ x. is_none (latest vars x)) occurring → named ≡ given → all ≡ once [] given ++ once (given ++ map (λ v. v.0) vars) occurring
+all_keys seen seen' vars none first all named left given occurring is_none_yet unseen e f g is_left is_named =
+    let start : first ≡ once [] given = e ∙ ap (λ q. q ++ once (map (λ v. v.0) seen) named) is_none_yet ∙ ap (λ q. once (map (λ v. v.0) q) named) unseen ∙ ap (once []) is_named in
+    let same : (x : ℕ) → stands (map (λ v. v.0) seen') x ≡ stands given x = λ x. f x ∙ ap (λ q. stands named x || stands (map (λ v. v.0) q) x) unseen ∙ or_none (stands named x) ∙ ap (λ q. stands q x) is_named in
+    g ∙ ap (λ q. q ++ once (map (λ v. v.0) seen') left) start ∙ ap (λ q. once [] given ++ q) (once_same (map (λ v. v.0) seen') given same left ∙ ap (once given) is_left ∙ sym (once_apart given vars occurring))
+  where
+    or_none : (p : Bool) → (p || false) ≡ p
+    or_none true = refl
+    or_none false = refl

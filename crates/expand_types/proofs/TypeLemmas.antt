@@ -75,11 +75,14 @@ module _ (src : Source) (s : Scope) where
       let before = g t at in
       as_two src r before.0 o before.1 (sym e) (list_parts o list) (λ u. ((z : List ℕ) (q : Made) → Runs (types s u) m z q → Runs (types s t) k (done ++ z) q) → (v : Term) × IsAt src l v × ((z : List ℕ) (q : Made) → Runs (types s v) n z q → Runs (types s t) k (done' ++ z) q))
       (λ p a b w. λ run.
-      let inside = parts o p a b w in
-      (b, inside.1, λ z q more.
-      let all : Runs (types s (two o p a b)) m (x ++ z) q = ap (λ f. f m) (listed o p a b list) ∙ both (types s a) (types s b) m n q x z (h a inside.0) more in
-      let is : done' ≡ done ++ x = same ∙ ap (λ u. done ++ u) ys in
-      subst (λ u. Runs (types s t) k u q) (sym (append_assoc done x z) ∙ ap (λ u. u ++ z) (sym is)) (run (x ++ z) q all)))
+      let inside = parts o p a b w in (
+        b,
+        inside.1,
+        λ z q more.
+            let all : Runs (types s (two o p a b)) m (x ++ z) q = ap (λ f. f m) (listed o p a b list) ∙ both (types s a) (types s b) m n q x z (h a inside.0) more in
+            let is : done' ≡ done ++ x = same ∙ ap (λ u. done ++ u) ys in
+            subst (λ u. Runs (types s t) k u q) (sym (append_assoc done x z) ∙ ap (λ u. u ++ z) (sym is)) (run (x ++ z) q all),
+      ))
       before.2
 
   pub starts : (i : ℕ) (k : Made) (none : List ℕ) → none ≡ [] → Goes src (types s) i k none i k

@@ -8,12 +8,6 @@ use Rattle.sml_expansion.specs.Scopes.{text_of}
 use Rattle.sml_expansion.specs.TypeVariables.{new_tyvars}
 use Rattle.expand_types.proofs.Steps.{behind}
 
-pub drop_past : {A : Type 0} (xs : List A) (i : ℕ) → length xs ≤ i → drop i xs ≡ []
-drop_past [] zero h = refl
-drop_past [] (suc i) h = refl
-drop_past (x ∷ xs) zero h = absurd (omega (arith, h))
-drop_past (x ∷ xs) (suc i) h = let w : length xs ≤ i = omega (arith, h) in drop_past xs i w
-
 module _ (names : List (List ℕ)) (keys : List ℕ) (k : Made) where
   -- so many are made
   abbrev pub Made_so_far : ℕ → Made → List (ℕ × ℕ) → Type 0

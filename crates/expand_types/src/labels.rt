@@ -66,11 +66,7 @@ fn push_label(
 
 /// The labels of rows, behind those that are there.
 #[cycle(labels)]
-fn push_labels(
-    parsed: &Parsed,
-    at: u32,
-    labs: &mut Vec<(Lab, Place)>,
-) -> Result<(), NoMemory>
+fn push_labels(parsed: &Parsed, at: u32, labs: &mut Vec<(Lab, Place)>) -> Result<(), NoMemory>
     ensures { OnOk result ((t : Term) → IsAt parsed.now at t → labs.new.items ≡ labs.old.items ++ labels parsed.now.names t) }
 {
     let mut rest = at;

@@ -1,6 +1,7 @@
 use Rattle.std.proofs.Common.{◌≡◌, ◌<◌, ◌≤◌, [], ◌∷◌, ◌++◌, length, drop, get_or, rules, subst}
 use Rattle.sml_expansion.specs.Makings.{Runs, new_tyvar}
-use Rattle.expand_types.proofs.TyvarLemmas.{one_more, all_made, drop_past}
+use Rattle.std.proofs.lemmas.List.{drop_all}
+use Rattle.expand_types.proofs.TyvarLemmas.{one_more, all_made}
 use Rattle.expand_types.proofs.type_variables.new_tyvars.Goals as goal
 
 pub loop-key-preserved : goal.loop-key-preserved
@@ -14,5 +15,5 @@ pub returns : goal.returns
 returns c =
     let keys = c.args.keys.now in
     let out : length keys ≤ c.loop-key.key-index = search rules in
-    let none : drop c.loop-key.key-index keys ≡ [] = drop_past keys c.loop-key.key-index out in
+    let none : drop c.loop-key.key-index keys ≡ [] = drop_all c.loop-key.key-index keys out in
     all_made c.args.parsed.now.names keys c.args.made.now c.loop-key.key-index _ _ none c.loop-key.invariant
