@@ -1,6 +1,8 @@
 pub mod MakingLemmas
 pub mod MarkLemmas
 mod NameLemmas
+pub mod OnceLemmas
+pub mod OrderLemmas
 mod PartLemmas
 mod ReverseLemmas
 pub mod ScopedLemmas
