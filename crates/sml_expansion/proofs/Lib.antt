@@ -1,3 +1,4 @@
+pub mod FieldLemmas
 pub mod MakingLemmas
 pub mod MarkLemmas
 mod NameLemmas

@@ -74,13 +74,13 @@ int_one_way x y e = search rules
 int_chain : (x y z : ℤ) → int_lt x y ≡ false → int_lt y z ≡ false → int_lt x z ≡ false
 int_chain x y z e f = search rules
 
-lab_one_way : (x y : Lab) → lab_less x y ≡ true → lab_less y x ≡ false
+pub lab_one_way : (x y : Lab) → lab_less x y ≡ true → lab_less y x ≡ false
 lab_one_way (Num x) (Num y) e = int_one_way x y e
 lab_one_way (Num x) (Text ys) e = refl
 lab_one_way (Text xs) (Num y) e = cc
 lab_one_way (Text xs) (Text ys) e = bytes_one_way xs ys e
 
-lab_chain : (x y z : Lab) → lab_less x y ≡ false → lab_less y z ≡ false → lab_less x z ≡ false
+pub lab_chain : (x y z : Lab) → lab_less x y ≡ false → lab_less y z ≡ false → lab_less x z ≡ false
 lab_chain (Num x) (Num y) (Num z) e f = int_chain x y z e f
 lab_chain (Num x) (Num y) (Text zs) e f = cc
 lab_chain (Num x) (Text ys) z e f = cc
@@ -143,7 +143,7 @@ pub is_partitioned : (lab : Lab) (order : List (Bor Lab)) → IsSortedBy before 
 is_partitioned lab order s = partitioned lab order s
 
 -- those below a partition point are counted
-counted : {X : Type 0} (p : X → Bool) (x : X) (xs : List X) → count_by p (x ∷ xs) ≡ cond {A = ℕ} (p x) 1 0 + count_by p xs
+pub counted : {X : Type 0} (p : X → Bool) (x : X) (xs : List X) → count_by p (x ∷ xs) ≡ cond {A = ℕ} (p x) 1 0 + count_by p xs
 counted p x xs = sum_by-cons (λ y. cond (p y) 1 0) x xs
 
 count_none : {X : Type 0} (p : X → Bool) (xs : List X) → ((k : ℕ) (d : X) → k < length xs → p (slice_index_or xs k d) ≡ false) → count_by p xs ≡ 0

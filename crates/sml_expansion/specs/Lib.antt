@@ -3,6 +3,7 @@ pub mod Bindings
 pub mod Scoped
 pub mod Clauses
 pub mod Expressions
+pub mod Fields
 pub mod Forests
 pub mod Labels
 pub mod Linking

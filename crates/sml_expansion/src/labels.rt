@@ -8,6 +8,7 @@ ghost use Rattle.std.specs.List.Sorted.{IsSortedBy};
 ghost use Rattle.std.specs.Ordering.{is_lt};
 ghost use Rattle.sml_expansion.specs.Types.{labs_of, type_fields};
 ghost use Rattle.sml_expansion.specs.Bare.{fields};
+ghost use Rattle.sml_expansion.specs.Fields.{slot_placed, slotted, typed};
 
 use crate::number::number;
 use sml_tree::bare::{Field, Lab, TypeField};
@@ -96,18 +97,80 @@ pub fn slots(alloc: Global, labs: &[(Lab, Place)]) -> Result<Vec<u32>, NoMemory>
     Ok(slots)
 }
 
+/// The place of each label among the labels of a record, with where it stands.
+pub(crate) fn slots_placed(
+    alloc: Global,
+    labs: &[(Lab, Place)],
+) -> Result<Vec<(u32, Place)>, NoMemory>
+    ensures { IfOk result (λ slots. slots.items ≡ map (slot_placed (labs_of labs.now)) labs.now) }
+{
+    let order = in_order(alloc, labs)?;
+    let mut slots = Vec::new(alloc);
+    for (lab, place) in labs {
+        slots.push((number(place_among(&order, lab))?, *place))?;
+    }
+    Ok(slots)
+}
+
+/// Fields with these slots, as far as there are some.
+fn slotted(alloc: Global, labs: Vec<(Lab, Place)>, slots: &[u32]) -> Result<Row<Field>, NoMemory>
+    ensures { IfOk result (λ row. row ≡ slotted slots.now labs.items) }
+{
+    let mut row = Row::new(alloc);
+    let mut rest = slots;
+    for (lab, _) in labs {
+        if let [slot, more @ ..] = rest {
+            row.push(Field {
+                lab,
+                slot: *slot,
+                node: 0,
+            })?;
+            rest = more;
+        }
+    }
+    Ok(row)
+}
+
+/// Fields with these types, as far as there are some.
+fn typed(alloc: Global, fields: Row<Field>, types: &[u32]) -> Result<Row<TypeField>, NoMemory>
+    ensures { IfOk result (λ row. row ≡ typed fields types.now) }
+{
+    let mut row = Row::new(alloc);
+    let mut rest = types;
+    for field in fields.into_vec() {
+        if let [ty, more @ ..] = rest {
+            row.push(TypeField {
+                lab: field.lab,
+                slot: field.slot,
+                ty: *ty,
+            })?;
+            rest = more;
+        }
+    }
+    Ok(row)
+}
+
 /// The fields of a record with these labels, in written order, in which no part is named yet.
 pub fn fields(alloc: Global, labs: Vec<(Lab, Place)>) -> Result<Row<Field>, NoMemory>
     ensures { IfOk result (λ row. row ≡ fields (labs_of labs.items)) }
 {
-    Err(NoMemory)
+    let slots = slots(alloc, &labs)?;
+    slotted(alloc, labs, &slots)
 }
 
 /// The fields of a tuple, in which no part is named yet.
 pub fn tuple_fields(alloc: Global, count: u32) -> Result<Row<Field>, NoMemory>
     ensures { IfOk result (λ row. row ≡ fields (numbers 0 count)) }
 {
-    Err(NoMemory)
+    let mut row = Row::new(alloc);
+    for slot in 0..count {
+        row.push(Field {
+            lab: Lab::Num(i64::from(slot) + 1),
+            slot,
+            node: 0,
+        })?;
+    }
+    Ok(row)
 }
 
 /// The fields of a record type with these labels, in written order.
@@ -118,12 +181,14 @@ pub fn type_fields(
 ) -> Result<Row<TypeField>, NoMemory>
     ensures { IfOk result (λ row. row ≡ type_fields (labs_of labs.items) types.now) }
 {
-    Err(NoMemory)
+    let fields = fields(alloc, labs)?;
+    typed(alloc, fields, types)
 }
 
 /// The fields of a product.
 pub fn product_fields(alloc: Global, types: &[u32]) -> Result<Row<TypeField>, NoMemory>
     ensures { IfOk result (λ row. row ≡ type_fields (numbers 0 (length types.now)) types.now) }
 {
-    Err(NoMemory)
+    let fields = tuple_fields(alloc, number(types.len())?)?;
+    typed(alloc, fields, types)
 }

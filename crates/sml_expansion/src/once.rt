@@ -6,6 +6,7 @@ ghost use Rattle.sml_expansion.specs.Makings.{Runs, breaks};
 ghost use Rattle.sml_expansion.specs.Patterns.{idents_once, vars_once};
 ghost use Rattle.sml_expansion.specs.Types.{labels_once};
 
+use crate::labels::slots_placed;
 use crate::made::Made;
 use crate::scope::{Bound, Ident};
 use indexmap::IndexSet;
@@ -50,5 +51,6 @@ pub fn vars_once(made: &mut Made, vars: &[Bound]) -> Result<(), NoMemory>
 pub fn labels_once(made: &mut Made, labs: &[(Lab, Place)]) -> Result<(), NoMemory>
     ensures { OnOk result (Runs (labels_once labs.now) made.old tt made.new) }
 {
-    Err(NoMemory)
+    let keys = slots_placed(made.allocator(), labs)?;
+    keys_once(made, &keys)
 }
