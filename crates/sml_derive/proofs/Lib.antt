@@ -3,3 +3,4 @@ mod ReverseLemmas
 mod ScopedLemmas
 mod StartLemmas
 pub mod TreeLemmas
+pub mod KindLemmas

@@ -13,5 +13,6 @@ pub mod Refusals
 pub mod Scopes
 pub mod Starts
 pub mod Terms
+pub mod Kinds
 pub mod TypeVariables
 pub mod Types
