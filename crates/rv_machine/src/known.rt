@@ -37,6 +37,9 @@ pub struct KnownWords {
 }
 
 impl KnownWords {
+    ghost use Rattle.std.specs.Prelude.{slice_index_or};
+    ghost use Rattle.rv_machine.specs.declared.known.Known.{Known};
+
     pub fn new() -> KnownWords {
         KnownWords {
             entries: [Known::of(0); COUNT],
@@ -50,21 +53,17 @@ impl KnownWords {
         ensures registers { IfSome result (λ i. (i.rd < 32) × (i.rs1 < 32) × (i.rs2 < 32)) }
     {
         let place = at / 4 % COUNT;
-        let known = self.entries[place];
-        if known.word == word {
-            return known.ins;
+        if self.entries[place].word != word {
+            self.learn(place, word);
         }
-        self.learn(place, word)
+        self.entries[place].ins
     }
 
     #[inline(never)]
-    fn learn(&mut self, place: usize, word: u32) -> Option<Ins>
+    fn learn(&mut self, place: usize, word: u32)
         requires { place < 1024 }
-        ensures value { result ≡ decoded word }
-        ensures registers { IfSome result (λ i. (i.rd < 32) × (i.rs1 < 32) × (i.rs2 < 32)) }
+        ensures { (d : Known) → (slice_index_or self.new.entries place d).word ≡ word }
     {
-        let known = Known::of(word);
-        self.entries[place] = known;
-        known.ins
+        self.entries[place] = Known::of(word);
     }
 }
