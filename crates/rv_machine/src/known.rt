@@ -59,6 +59,7 @@ impl KnownWords {
         self.entries[place].ins
     }
 
+    #[cold]
     #[inline(never)]
     fn learn(&mut self, place: usize, word: u32)
         requires { place < 1024 }
