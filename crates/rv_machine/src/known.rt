@@ -7,7 +7,7 @@ ghost use Rattle.rv_isa.specs.Word.{decoded};
 use rv_isa::{Ins, decode};
 
 /// How many words are kept.
-const COUNT: usize = 1024;
+const COUNT: usize = 4096;
 
 /// A word and its instruction.
 #[derive(Clone, Copy, Debug, PartialEq, Eq)]
@@ -62,7 +62,7 @@ impl KnownWords {
     #[cold]
     #[inline(never)]
     fn learn(&mut self, place: usize, word: u32)
-        requires { place < 1024 }
+        requires { place < 4096 }
         ensures { (d : Known) → (slice_index_or self.new.entries place d).word ≡ word }
     {
         self.entries[place] = Known::of(word);
