@@ -1,4 +1,5 @@
 pub mod FieldLemmas
+pub mod KindLemmas
 pub mod MakingLemmas
 pub mod MarkLemmas
 mod NameLemmas

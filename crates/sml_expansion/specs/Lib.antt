@@ -16,5 +16,6 @@ pub mod Scopes
 pub mod Sources
 pub mod Starts
 pub mod Terms
+pub mod Kinds
 pub mod TypeVariables
 pub mod Types
