@@ -1,4 +1,5 @@
 pub mod AnnotationLemmas
+pub mod BindingLemmas
 pub mod FlowLemmas
 pub mod OnceLemmas
 pub mod RowLemmas

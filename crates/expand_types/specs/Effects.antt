@@ -1,11 +1,15 @@
 -- What a declaration does to the state of an expansion.
-use Rattle.std.specs.Prelude.{◌++◌}
+use Rattle.std.specs.Prelude.{[], ◌∷◌, ◌++◌, reverse}
+use Rattle.sml_tree.specs.declared.bare.TypeBinding.{TypeBinding}
+use Rattle.sml_expansion.specs.declared.scope.Ident.{Ident}
+use Rattle.sml_expansion.specs.declared.meaning.TypeMeaning.TheVariants.{Abbreviation}
+use Rattle.expand_types.specs.declared.type_declarations.TypeBindings.{TypeBindings}
 use Rattle.sml_expansion.specs.declared.scope.Bindings.{Bindings}
 use Rattle.sml_expansion.specs.declared.walk.Walk.{Walk}
 use Rattle.sml_expansion.specs.Makings.{Makes}
 use Rattle.sml_expansion.specs.Marks.{marks}
 use Rattle.sml_expansion.specs.Scopes.{Env}
-use Rattle.sml_expansion.specs.Bindings.{Decs}
+use Rattle.sml_expansion.specs.Bindings.{Decs, TypeDecs}
 
 -- what was bound, and before it what a declaration binds
 abbrev pub bound : Bindings → Env → Bindings
@@ -14,3 +18,13 @@ bound b e = record b { values = e.values ++ b.values; types = e.types ++ b.types
 -- what is made is kept, the trees stand behind those so far, and what is bound is in force
 abbrev pub declared : Walk → Makes Decs → Walk
 declared w f = let r = f w.made in record { made = r.1; bindings = bound w.bindings r.0.env; marks = w.marks ++ marks r.0.forest }
+
+-- what `type` bindings come to, where those that are kept in order are shown the latest first
+abbrev pub types_shown : TypeBindings → TypeDecs
+types_shown b = record { bindings = b.bindings; idents = b.idents; types = reverse b.types }
+
+abbrev pub types_behind : TypeDecs → TypeDecs → TypeDecs
+types_behind x y = record { bindings = x.bindings ++ y.bindings; idents = x.idents ++ y.idents; types = y.types ++ x.types }
+
+abbrev pub one_type_binding : Ident → TypeBinding → TypeDecs
+one_type_binding i b = record { bindings = b ∷ []; idents = i ∷ []; types = (i.key, Abbreviation b.number) ∷ [] }
