@@ -1,0 +1,17 @@
+//! Patterns, heads of clauses, and names of functions and recursive bindings.
+//!
+//! It stands on `expand_types`, `sml_expansion`, `sml_prelude`, `sml_tree` and `smlc_base`. Its main contract: `whole` expands the pattern of a rule, with the variables that it binds.
+#![tactic(auto)]
+
+pub mod clauses;
+pub mod force;
+pub mod identifiers;
+pub mod patterns;
+pub mod recursive;
+
+pub use clauses::{
+    arguments, arguments_in, binds_functions, first_clause, head, name_of, whole_arguments,
+};
+pub use force::put_in_force;
+pub use patterns::whole;
+pub use recursive::{none_fixed, rec_names};
