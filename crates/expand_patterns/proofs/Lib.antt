@@ -1,1 +1,4 @@
+pub mod Behind
 mod HeadLemmas
+pub mod Joining
+pub mod Shaped

@@ -1,1 +1,3 @@
 pub mod Expands
+pub mod Forms
+pub mod Opens

@@ -4,7 +4,9 @@
 #![tactic(auto)]
 
 pub mod clauses;
+mod closing;
 pub mod force;
+mod forms;
 pub mod identifiers;
 pub mod patterns;
 pub mod recursive;
