@@ -1,4 +1,5 @@
 pub mod Behind
+mod Forced
 mod HeadLemmas
 pub mod Joining
 pub mod Shaped
