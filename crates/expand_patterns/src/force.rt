@@ -14,10 +14,9 @@ pub fn put_in_force(walk: &mut Walk, bound: &[Bound]) -> Result<(), NoMemory>
     ensures marks { OnOk result (walk.new.marks ≡ walk.old.marks) }
 {
     for variable in bound {
-        walk.bindings.values.bind(
-            variable.ident.key,
-            Meaning::Variable(Name(variable.name)),
-        )?;
+        walk.bindings
+            .values
+            .bind(variable.ident.key, Meaning::Variable(Name(variable.name)))?;
     }
     Ok(())
 }

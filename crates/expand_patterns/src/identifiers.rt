@@ -5,6 +5,7 @@ ghost use Rattle.sml_expansion.specs.Makings.{Runs};
 ghost use Rattle.sml_expansion.specs.Patterns.{not_fixed, binds, variable, identifier, no_long, no_constructor};
 ghost use Rattle.sml_expansion.specs.Scopes.{meaning_of};
 ghost use Rattle.expand_patterns.specs.Expands.{Expands, Binds};
+ghost use Rattle.expand_patterns.specs.Names.{binds_short};
 
 use sml_expansion::base::is_fixed;
 use sml_expansion::{Bound, Ident, Meaning, Parsed, Walk};
@@ -37,8 +38,25 @@ pub fn binds(
     Ok(Name(name))
 }
 
+/// The binding of an identifier that isn't long.
+pub(crate) fn binds_short(
+    parsed: &Parsed,
+    walk: &mut Walk,
+    bound: &mut Vec<Bound>,
+    ident: Ident,
+) -> Result<(), NoMemory>
+    ensures { OnOk result (Binds parsed.now.names (λ s. binds_short s.names ident) walk.old walk.new bound.old.items bound.new.items) }
+{
+    if ident.long {
+        Ok(())
+    } else {
+        binds(parsed, walk, bound, ident)?;
+        Ok(())
+    }
+}
+
 /// What a long identifier breaks that isn't a constructor.
-fn no_long(meaning: Option<Meaning>, ident: Ident) -> Refusal
+pub(crate) fn no_long(meaning: Option<Meaning>, ident: Ident) -> Refusal
     ensures { result ≡ no_long meaning ident }
 {
     match meaning {

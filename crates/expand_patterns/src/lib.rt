@@ -7,13 +7,13 @@ pub mod clauses;
 mod closing;
 pub mod force;
 mod forms;
+pub mod heads;
 pub mod identifiers;
 pub mod patterns;
 pub mod recursive;
 
-pub use clauses::{
-    arguments, arguments_in, binds_functions, first_clause, head, name_of, whole_arguments,
-};
+pub use clauses::binds_functions;
 pub use force::put_in_force;
+pub use heads::{arguments, arguments_in, first_clause, head, name_of, whole_arguments};
 pub use patterns::whole;
 pub use recursive::{none_fixed, rec_names};

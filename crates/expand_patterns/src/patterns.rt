@@ -166,7 +166,7 @@ fn both(
 
 /// `( pat , pat {, pat} )`.
 #[cycle(patterns)]
-fn tuple(
+pub(crate) fn tuple(
     parsed: &Parsed,
     walk: &mut Walk,
     bound: &mut Vec<Bound>,

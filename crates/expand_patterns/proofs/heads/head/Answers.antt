@@ -5,7 +5,7 @@ use Rattle.sml_expansion.specs.Sources.{IsAt}
 use Rattle.sml_expansion.specs.Clauses.{head}
 use Rattle.sml_expansion.proofs.Shapes.{node_is, as_two, as_three}
 use Rattle.expand_patterns.proofs.HeadLemmas.{head_same}
-use Rattle.expand_patterns.proofs.clauses.head.Goals as goal
+use Rattle.expand_patterns.proofs.heads.head.Goals as goal
 
 pub returns-in-Clause : goal.returns-in-Clause
 returns-in-Clause c t h =

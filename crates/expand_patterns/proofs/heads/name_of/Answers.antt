@@ -5,7 +5,7 @@ use Rattle.sml_expansion.specs.Sources.{IsAt}
 use Rattle.sml_expansion.specs.Clauses.{name_of}
 use Rattle.sml_expansion.proofs.Shapes.{node_is, as_two, as_three, as_four}
 use Rattle.expand_patterns.proofs.HeadLemmas.{name_same}
-use Rattle.expand_patterns.proofs.clauses.name_of.Goals as goal
+use Rattle.expand_patterns.proofs.heads.name_of.Goals as goal
 
 pub returns-in-Head : goal.returns-in-Head
 returns-in-Head c t h =

@@ -5,7 +5,7 @@ use Rattle.sml_expansion.specs.Sources.{IsAt}
 use Rattle.sml_expansion.specs.Clauses.{first_clause}
 use Rattle.sml_expansion.proofs.Shapes.{node_is, as_two}
 use Rattle.expand_patterns.proofs.HeadLemmas.{first_same}
-use Rattle.expand_patterns.proofs.clauses.first_clause.Goals as goal
+use Rattle.expand_patterns.proofs.heads.first_clause.Goals as goal
 
 pub loop-first-preserved : goal.loop-first-preserved
 loop-first-preserved c t h =
