@@ -1,5 +1,5 @@
 -- Patterns.
-use Rattle.std.specs.Prelude.{ℕ, ◌&&◌, if◌then◌else◌, List, [], ◌∷◌, ◌++◌, Option, Some, None, map, reverse, is_some, nat_eq}
+use Rattle.std.specs.Prelude.{ℕ, ◌==◌, ◌&&◌, if◌then◌else◌, List, [], ◌∷◌, ◌++◌, Option, Some, None, map, reverse, is_some, nat_eq}
 use Rattle.smlc_base.specs.declared.place.Place.{Place}
 use Rattle.smlc_base.specs.declared.refusal.Refusal.{Refusal}
 use Rattle.smlc_base.specs.declared.refusal.Refusal.TheVariants as refusal
@@ -9,8 +9,8 @@ use Rattle.sml_expansion.specs.declared.meaning.Meaning.{Meaning}
 use Rattle.sml_expansion.specs.declared.meaning.Meaning.TheVariants.{Variable, Constructor}
 use Rattle.sml_expansion.specs.declared.scope.Ident.{Ident}
 use Rattle.sml_expansion.specs.declared.scope.Bound.{Bound}
-use Rattle.sml_expansion.specs.Terms.{Term, leaf, one, two, three}
-use Rattle.sml_expansion.specs.Forests.{Forest, none, grown, ◌&◌}
+use Rattle.sml_expansion.specs.Terms.{Term, leaf, one, two, three, place_at}
+use Rattle.sml_expansion.specs.Forests.{Forest, none, grown, count, ◌&◌}
 use Rattle.sml_expansion.specs.Labels.{doubles}
 use Rattle.sml_expansion.specs.Scopes.{Scope, Env, ident, text_of, meaning_of, is_fixed}
 use Rattle.sml_expansion.specs.Makings.{Makes, gives, breaks, new_name, ◌>>=◌, ◌>>◌}
@@ -57,16 +57,20 @@ abbrev pub no_long : Option Meaning → Ident → Refusal
 no_long None i = refusal.Unbound i.place
 no_long (Some m) i = refusal.BadBinding i.place
 
--- an identifier alone: a constructor, or a variable
-abbrev pub identifier : List (List ℕ) → Place → Ident → Option Meaning → Makes Pattern
-identifier names p i (Some (Constructor c)) = gives (plain (con_pattern p c))
-identifier names p i m =
+-- an identifier alone that is no constructor
+abbrev pub variable : List (List ℕ) → Place → Ident → Option Meaning → Makes Pattern
+variable names p i m =
     if i.long then (do
       breaks (no_long m i ∷ [])
       gives (plain (wild_node p)))
     else (do
       v ← binds names i
       gives (record { forest = var_pattern p v.name; vars = v ∷ [] }))
+
+-- an identifier alone: a constructor, or a variable
+abbrev pub identifier : List (List ℕ) → Place → Ident → Option Meaning → Makes Pattern
+identifier names p i (Some (Constructor c)) = gives (plain (con_pattern p c))
+identifier names p i m = variable names p i m
 
 -- what has to be a constructor; a long identifier with a binding that is none breaks the rule
 abbrev pub no_constructor : Option Meaning → Ident → Refusal
@@ -99,6 +103,12 @@ under_type s p t q = do
   x ← q
   gives (under (typed p n) x)
 
+-- Between parentheses and in a row the grammar has one pattern. Each pattern is one tree.
+abbrev pub single : Place → Makes Pattern → Makes Pattern
+single p f = do
+  x ← f
+  gives (if count x.forest == 1 then x else under (λ g. wild_node p) x)
+
 -- The patterns of a list, one for a pattern alone. Bindings and types are numbered in the order of the nodes, a node's own before those of its parts.
 abbrev pub patterns : Scope → Term → Makes Pattern
 patterns s (leaf (node.Vid x) p) = let i = ident s.names (leaf (node.Vid x) p) in identifier s.names p i (meaning_of s i.key)
@@ -112,7 +122,7 @@ patterns s (leaf node.PatUnit p) = gives (plain (tuple_pattern p none))
 patterns s (leaf node.PatEmptyRecord p) = gives (plain (tuple_pattern p none))
 patterns s (leaf node.PatEmptyList p) = gives (plain (list_pattern p none))
 patterns s (one node.Op p a) = let i = ident s.names a in identifier s.names p i (meaning_of s i.key)
-patterns s (one node.PatParen p a) = patterns s a
+patterns s (one node.PatParen p a) = single p (patterns s a)
 patterns s (one node.PatList p a) = do
   x ← patterns s a
   gives (under (list_pattern p) x)
@@ -142,7 +152,7 @@ patterns s (two node.ConPat p c a) = let i = ident s.names c in do
   applied p i (meaning_of s i.key) x
 patterns s (two node.TypedPat p a t) = under_type s p t (patterns s a)
 patterns s (two node.Layered p v a) = layered s p (ident s.names v) (patterns s a)
-patterns s (two node.PatRow p l a) = patterns s a
+patterns s (two node.PatRow p l a) = single p (patterns s a)
 patterns s (two node.TypedPunRow p l t) = let i = ident s.names l in under_type s p t (identifier s.names p i (meaning_of s i.key))
 patterns s (two node.PunRowAs p l a) = layered s p (ident s.names l) (patterns s a)
 patterns s (three node.InfixPat p a v b) = let i = ident s.names v in do
@@ -151,7 +161,7 @@ patterns s (three node.InfixPat p a v b) = let i = ident s.names v in do
   applied p i (meaning_of s i.key) (under (tuple_pattern p) (beside x y))
 patterns s (three node.TypedLayered p v t a) = layered s p (ident s.names v) (under_type s p t (patterns s a))
 patterns s (three node.TypedPunRowAs p l t a) = layered s p (ident s.names l) (under_type s p t (patterns s a))
-patterns s _ = gives (plain none)
+patterns s t = gives (plain (wild_node (place_at t)))
 
 -- a pattern of a rule: no name stands twice in it
 abbrev pub whole : Makes Pattern → Makes Pattern

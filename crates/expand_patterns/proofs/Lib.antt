@@ -1,0 +1,6 @@
+pub mod Behind
+mod Forced
+mod BindLemmas
+mod HeadLemmas
+pub mod Joining
+pub mod Shaped

@@ -1,0 +1,4 @@
+pub mod Expands
+pub mod Forms
+pub mod Names
+pub mod Opens
