@@ -1,0 +1,2 @@
+//! Laws of the expansion: what the bare tree of a parse tree keeps.
+#![tactic(auto)]
