@@ -5,3 +5,5 @@ pub mod Kinded
 pub mod TypesDone
 pub mod Joined
 pub mod Derived
+pub mod Meanings
+pub mod PatternsDone
