@@ -11,7 +11,7 @@ pub data Kind : Type 0 where
   Exp Exps Rows Rules Label : Kind
   Pat Pats PatRows : Kind
   Ty Tys TyRows : Kind
-  Dec Decs ValBind ValBinds Clause Clauses FunBinds Head TypBinds DatBinds ConBinds ExBinds : Kind
+  Dec Decs ValBind ValBinds Clause Clauses FunBinds Head TypBinds DatBind DatBinds ConBinds ExBinds : Kind
 
 -- how many trees have no parts
 abbrev pub leaves_in : Term → ℕ
@@ -130,8 +130,9 @@ pub data Kinded (texts : ℕ) : Kind → Term → Type 0 where
   paren_head_args : (p : Place) {a b ps : Term} (v : Term) → Kinded texts Pat a → Kinded texts Pat b → Kinded texts Pats ps → Kinded texts Head (four node.ParenHeadArgs p a v b ps)
   typ_bind : (p : Place) (vs c : Term) {t : Term} → Kinded texts Ty t → Kinded texts TypBinds (three node.TypBind p vs c t)
   more_typ_binds : (p : Place) {a b : Term} → Kinded texts TypBinds a → Kinded texts TypBinds b → Kinded texts TypBinds (two node.MoreTypBinds p a b)
-  dat_bind : (p : Place) (vs c : Term) {cons : Term} → Kinded texts ConBinds cons → leaves_in cons ≤ 1048576 → Kinded texts DatBinds (three node.DatBind p vs c cons)
-  more_dat_binds : (p : Place) {a b : Term} → Kinded texts DatBinds a → Kinded texts DatBinds b → Kinded texts DatBinds (two node.MoreDatBinds p a b)
+  dat_bind : (p : Place) (vs c : Term) {cons : Term} → Kinded texts ConBinds cons → leaves_in cons ≤ 1048576 → Kinded texts DatBind (three node.DatBind p vs c cons)
+  one_dat_bind : {a : Term} → Kinded texts DatBind a → Kinded texts DatBinds a
+  more_dat_binds : (p : Place) {a b : Term} → Kinded texts DatBind a → Kinded texts DatBinds b → Kinded texts DatBinds (two node.MoreDatBinds p a b)
   con_bind : (p : Place) (v : Term) → Kinded texts ConBinds (one node.ConBind p v)
   con_bind_of : (p : Place) (v : Term) {t : Term} → Kinded texts Ty t → Kinded texts ConBinds (two node.ConBindOf p v t)
   more_con_binds : (p : Place) {a b : Term} → Kinded texts ConBinds a → Kinded texts ConBinds b → Kinded texts ConBinds (two node.MoreConBinds p a b)

@@ -7,3 +7,4 @@ pub mod Joined
 pub mod Derived
 pub mod Meanings
 pub mod PatternsDone
+pub mod DeclarationsDone
