@@ -8,3 +8,5 @@ pub mod Derived
 pub mod Meanings
 pub mod PatternsDone
 pub mod DeclarationsDone
+pub mod NamesDone
+pub mod ExpressionsDone

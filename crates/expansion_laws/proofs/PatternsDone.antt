@@ -118,16 +118,16 @@ PatsMade z _ s t = Unit {0}
 
 -- steps of lists
 module _ (z : Sizes) (s : Scope) where
-  first_and_others : (m : Made) (q u : Makes Pattern) → TyvarsIn s m → PatDone z s m (q m) → (TyvarsIn s (q m).1 → let r = u (q m).1 in Done z s (q m).1 r.1 (SomePatterns z (q m).1 r)) → let x = q m in let y = u x.1 in Done z s m y.1 (SomePatterns z m (beside x.0 y.0, y.1))
+  pub first_and_others : (m : Made) (q u : Makes Pattern) → TyvarsIn s m → PatDone z s m (q m) → (TyvarsIn s (q m).1 → let r = u (q m).1 in Done z s (q m).1 r.1 (SomePatterns z (q m).1 r)) → let x = q m in let y = u x.1 in Done z s m y.1 (SomePatterns z m (beside x.0 y.0, y.1))
   first_and_others m q u v d e = done_both v d e (λ g x y. (1 + y.0, two_patterns z s (q m).0 (u (q m).1).0 x y.1))
 
-  list_done : (m n : Made) (p : Place) (q : Pattern) → Done z s m n (SomePatterns z m (q, n)) → PatDone z s m (under (bare.list_pattern p) q, n)
+  pub list_done : (m n : Made) (p : Place) (q : Pattern) → Done z s m n (SomePatterns z m (q, n)) → PatDone z s m (under (bare.list_pattern p) q, n)
   list_done m n p q d = done_so d (λ g v x. list_pattern_form p v.base x.0 x.1)
 
-  tuple_done : (m n : Made) (p : Place) (q : Pattern) → Done z s m n (SomePatterns z m (q, n)) → PatDone z s m (under (bare.tuple_pattern p) q, n)
+  pub tuple_done : (m n : Made) (p : Place) (q : Pattern) → Done z s m n (SomePatterns z m (q, n)) → PatDone z s m (under (bare.tuple_pattern p) q, n)
   tuple_done m n p q d = done_so d (λ g v x. tuple_pattern_form p x.1)
 
-  one_done : (m : Made) (r : Pattern × Made) → PatDone z s m r → Done z s m r.1 (SomePatterns z m r)
+  pub one_done : (m : Made) (r : Pattern × Made) → PatDone z s m r → Done z s m r.1 (SomePatterns z m r)
   one_done m r d = done_so d (λ g v x. (1, x))
 
   record_done : (p : Place) (labs : List (Lab × Place)) (q : Makes Pattern) (m : Made) → TyvarsIn s m → ((k : Made) → TyvarsIn s k → Done z s k (q k).1 (IsPatterns z k (q k) (length labs)))

@@ -1,0 +1,216 @@
+-- Expressions, matches and declarations expand to what they are.
+use Rattle.std.proofs.Common.{◌≡◌, ℕ, zero, suc, ◌<◌, ◌≤◌, ◌+◌, true, false, List, [], ◌∷◌, ◌++◌, map, length, refl, sym, ap, subst, ◌∙◌, Option, Some, None, arith, inl, inr, ◌⊎◌, if◌then◌else◌}
+use Rattle.std.specs.Prelude.{Bool, codes}
+use Rattle.std.specs.List.{AllByRecursion}
+use Rattle.std.proofs.lemmas.List.{length-append, length-map, map-append}
+use Rattle.smlc_base.specs.declared.place.Place.{Place}
+use Rattle.smlc_base.specs.declared.refusal.Refusal.{Refusal}
+use Rattle.smlc_base.specs.declared.refusal.Refusal.TheVariants as refusal
+use Rattle.sml_tree.specs.declared.bare.Con.{Con}
+use Rattle.sml_tree.specs.declared.bare.Lab.{Lab}
+use Rattle.sml_tree.specs.declared.bare.Node.{Node}
+use Rattle.sml_tree.specs.declared.bare.Node.TheVariants as bare
+use Rattle.sml_tree.specs.declared.bare.RecBinding.{RecBinding}
+use Rattle.sml_tree.specs.declared.tree_node.TreeNode.TheVariants as node
+use Rattle.sml_prelude.specs.Values.{is_function, takes_argument}
+use Rattle.sml_expansion.specs.declared.made.Made.{Made}
+use Rattle.sml_expansion.specs.declared.meaning.Meaning.{Meaning}
+use Rattle.sml_expansion.specs.declared.meaning.Meaning.TheVariants.{Variable, Constructor, Builtin}
+use Rattle.sml_expansion.specs.declared.scope.Ident.{Ident}
+use Rattle.sml_expansion.specs.declared.scope.Bound.{Bound}
+use Rattle.sml_expansion.specs.Forests.{Forest, none, tree, grown, count, ◌&◌}
+use Rattle.sml_expansion.specs.Terms.{Term, leaf, one, two, three, four, place_at}
+use Rattle.sml_expansion.specs.Labels.{doubles, lab_eq}
+use Rattle.sml_expansion.specs.Makings.{Makes, breaks, gives, new_name, new_names, ◌>>=◌, ◌>>◌}
+use Rattle.sml_expansion.specs.Scopes.{Scope, Env, ident, meaning_of, within, followed, nothing}
+use Rattle.sml_expansion.specs.Types.{labels, labels_once, type_of}
+use Rattle.sml_expansion.specs.TypeVariables.{tyvars, unguarded, opens, in_scope, numbers_of}
+use Rattle.sml_expansion.specs.Patterns.{Pattern, patterns, vars_once, whole, env_of}
+use Rattle.sml_expansion.specs.Clauses.{arguments, binds_functions, head, first_clause, arguments_in} 
+use Rattle.sml_expansion.specs.Clauses as clauses
+use Rattle.sml_expansion.specs.Bindings.{Decs, rec_names, annotations, is_typed_fn, fn_on_the_right}
+use Rattle.sml_expansion.specs.Bare as form
+use Rattle.sml_expansion.specs.Expressions.{Position, function_part, elsewhere, eta, named, identifier, is_fn, rules_in, application, both, binding, both_bindings, rule, rec_bindings, plain_dec, rec_dec, decs_of, decs_behind, decs_inside, expressions, rules, plain_bindings, rec_rights, functions, decs}
+use Rattle.expansion_laws.proofs.Contexts.{Among, Context, with_vars, ConIn, MeaningIn, EnvIn, ScopeIn, Wider, wider_same, wider_vars, wider_both, con_wider, env_wider, env_both, among_left, among_right, among_split}
+use Rattle.expansion_laws.proofs.Forms as f
+use Rattle.expansion_laws.proofs.Forms.{Sizes, Quiet, Names, Is, Part, before, after, bindings, declarations}
+use Rattle.expansion_laws.proofs.Growing.{Grows, grows_same, grows_both, breaks_grows, breaks_quiet, breaks_nothing, name_grows, name_names, TyvarsIn, tyvars_on, Ends, ends_back, Done, done_same, done_so, done_both, done_behind, done_before}
+use Rattle.expansion_laws.proofs.Joined.{join, join_patterns, join_rules, join_functions, join_bindings, join_declarations, one_expression, app_form, case_form, handle_form, rule_form, binding_form, con_form}
+use Rattle.expansion_laws.proofs.Derived.{no_doubles, HasBase, record_form, tuple_form, unit_form, if_form, sequence_form, list_form, typed_form, typed_function_form, variable_form, unless_one_pattern_form, nest_form, eta_form, while_form, under, wider_under, function_form}
+use Rattle.expansion_laws.proofs.Kinded as k
+use Rattle.expansion_laws.proofs.Kinded.{Kind, Kinded, Exp, Exps, Rows, Rules, Pat, Ty, Dec, Decs as DecList, ValBind, ValBinds, Clause, Clauses, FunBinds}
+use Rattle.expansion_laws.proofs.TypesDone.{TypeMade, type_made, quiet_both}
+use Rattle.expansion_laws.proofs.PatternsDone.{OptionIn, option_in, refused, names_in, patterns_made, PatDone, PatMakes, SomePatterns, one_label}
+use Rattle.expansion_laws.proofs.DeclarationsDone.{scope_within, scope_wider, scope_bound, bound_env, VarsMade, opens_made, opens_scope, numbers_in, DecsIn, DecsDone, type_dec_done, datatype_dec_done, exception_dec_done, idents_grows, idents_quiet, names_quiet}
+use Rattle.expansion_laws.proofs.NamesDone.{Binds, rec_count, rec_names_done, annotations_done, arguments_done, function_some, Some_, new_names_grow, new_names_are, function_of, function_same, fun_count, binds_functions_done, names_behind}
+
+abbrev pub ForestDone : Sizes → Scope → Made → Forest × Made → Part → Type 0
+ForestDone z s m r q = Done z s m r.1 (λ g. Is z g m r.1 q r.0)
+
+abbrev pub ForestMakes : Sizes → Scope → Makes Forest → Part → Type 0
+ForestMakes z s q c = (m : Made) → TyvarsIn s m → ForestDone z s m (q m) c
+
+-- ---- Identifiers
+
+-- a leaf that is an expression wherever there is more in scope
+abbrev LeafIn : Sizes → Scope → Forest → Type 0
+LeafIn z s t = (g h : Context) → ScopeIn g s → Wider g h → (m : Made) → Is z h m m (f.expressions 1) t
+
+eta_done : (z : Sizes) (s : Scope) (h : Position) (p : Place) (b : Bool) (t : Forest) (m : Made) → LeafIn z s t → ForestDone z s m (eta h p b t m) (f.expressions 1)
+eta_done z s elsewhere p true t m l = record { grows = name_grows (codes "v") m; says = λ e g i. eta_form p (length m.names) (name_names (codes "v") m) (l g (with_vars (length m.names ∷ []) g) i (wider_vars (length m.names ∷ []) g) (new_name (codes "v") m).1) }
+eta_done z s elsewhere p false t m l = done_same (λ g i. l g g i (wider_same g) m)
+eta_done z s function_part p true t m l = done_same (λ g i. l g g i (wider_same g) m)
+eta_done z s function_part p false t m l = done_same (λ g i. l g g i (wider_same g) m)
+
+named_done : (z : Sizes) (s : Scope) (h : Position) (p : Place) (i : Ident) (o : Option Meaning) (m : Made) → OptionIn s o → ForestDone z s m (named h p i o m) (f.expressions 1)
+named_done z s h p i None m c = record { grows = breaks_grows (refusal.Unbound i.place ∷ []) m; says = λ e g v. refused (refusal.Unbound i.place) m e.kept }
+named_done z s h p i (Some (Variable x)) m c = done_same (λ g v. variable_form p x.0 (c g v (Variable x) refl))
+named_done z s h p i (Some (Constructor x)) m c = eta_done z s h p (takes_argument x) (form.con_node p x) m (λ g w v e n. con_form p x (con_wider e x (c g v (Constructor x) refl)))
+named_done z s h p i (Some (Builtin x)) m c = eta_done z s h p (is_function x) (grown (bare.Builtin x) p none) m (λ g w v e n. one_expression p (f.is_builtin x))
+
+identifier_done : (z : Sizes) (s : Scope) (h : Position) (p : Place) (i : Ident) (m : Made) → ForestDone z s m (identifier h s p i m) (f.expressions 1)
+identifier_done z s h p i m = named_done z s h p i (meaning_of s i.key) m (option_in s i.key)
+
+-- ---- What each phrase is
+
+pub record ExpMade (z : Sizes) (t : Term) : Type 0 where
+  pub is : (h : Position) (s : Scope) → ForestMakes z s (expressions h s t) (f.expressions 1)
+  pub rules : is_fn t ≡ true → (h : Position) (s : Scope) (m : Made) → TyvarsIn s m → let r = expressions h s t m in Done z s m r.1 (λ g. Is z g m r.1 f.rules (rules_in r.0))
+  pub function : is_typed_fn t ≡ true → (s : Scope) → ForestMakes z s (expressions elsewhere s t) (f.functions 1)
+
+-- some expressions, one at least
+abbrev SomeExps : Sizes → Scope → Makes Forest → Type 0
+SomeExps z s q = (m : Made) → TyvarsIn s m → let r = q m in Done z s m r.1 (λ g. (j : ℕ) × Is z g m r.1 (f.expressions (suc j)) r.0)
+
+pub record BindMade (z : Sizes) (t : Term) : Type 0 where
+  pub plain : (s : Scope) (m : Made) → TyvarsIn s m → let r = plain_bindings s t m in Done z s m r.1 (λ g. (j : ℕ) × Is z g m r.1 (bindings j (names_in r.0.vars)) r.0.forest)
+  pub rights : (inside : Bool) (s : Scope) → ForestMakes z s (rec_rights inside s t) (f.functions (rec_count inside t))
+
+abbrev pub PhraseMade : Sizes → Kind → Term → Type 0
+PhraseMade z Exp t = ExpMade z t
+PhraseMade z Exps t = (s : Scope) → SomeExps z s (expressions elsewhere s t)
+PhraseMade z Rows t = (s : Scope) → ForestMakes z s (expressions elsewhere s t) (f.expressions (length (labels s.names t)))
+PhraseMade z Rules t = (s : Scope) → ForestMakes z s (rules s t) f.rules
+PhraseMade z Dec t = (s : Scope) (m : Made) → TyvarsIn s m → DecsDone z s m (decs s t m)
+PhraseMade z DecList t = (s : Scope) (m : Made) → TyvarsIn s m → DecsDone z s m (decs s t m)
+PhraseMade z ValBind t = BindMade z t
+PhraseMade z ValBinds t = BindMade z t
+PhraseMade z Clause t = (s : Scope) → ForestMakes z s (functions s t) f.rules
+PhraseMade z Clauses t = (s : Scope) → ForestMakes z s (functions s t) f.rules
+PhraseMade z FunBinds t = (s : Scope) → ForestMakes z s (clauses.function t (functions s t)) (f.functions (fun_count t))
+PhraseMade z _ t = Unit {0}
+
+no_clash : {A : Type 0} → false ≡ true → A
+no_clash e = absurd cc
+
+-- what is no function
+plain_exp : {z : Sizes} {t : Term} → is_fn t ≡ false → is_typed_fn t ≡ false → ((h : Position) (s : Scope) → ForestMakes z s (expressions h s t) (f.expressions 1)) → ExpMade z t
+plain_exp a b d = record { is = d; rules = λ e. no_clash (sym a ∙ e); function = λ e. no_clash (sym b ∙ e) }
+
+module _ (z : Sizes) (s : Scope) where
+  -- both things
+  two_done : {m k n : Made} {J K : Context → Type 0} → TyvarsIn s m → Done z s m k J → (TyvarsIn s k → Done z s k n K) → Done z s m n (λ g. J g × K g)
+  two_done v d e = done_both v d e (λ g x y. (x, y))
+
+  apply_done : (p : Place) (a b : Term) → ExpMade z a → ExpMade z b → (t : Bool) → is_fn a ≡ t → ForestMakes z s (application t p (expressions function_part s a) (expressions elsewhere s b)) (f.expressions 1)
+  apply_done p a b x y true e m v =
+      done_both v (y.is elsewhere s m v) (x.rules e function_part s (expressions elsewhere s b m).1) (λ g d r. case_form p d r)
+  apply_done p a b x y false e m v =
+      done_both v (x.is function_part s m v) (y.is elsewhere s (expressions function_part s a m).1) (λ g d r. app_form p d r)
+
+  both_done : {q u : Makes Forest} → ForestMakes z s q (f.expressions 1) → ForestMakes z s u (f.expressions 1) → ForestMakes z s (both q u) (f.expressions 2)
+  both_done {q} {u} a b m v = done_both v (a m v) (b (q m).1) (λ g x y. join x y)
+
+  more_done : {q u : Makes Forest} → ForestMakes z s q (f.expressions 1) → SomeExps z s u → SomeExps z s (both q u)
+  more_done {q} {u} a b m v = done_both v (a m v) (b (q m).1) (λ g x y. (suc y.0, join x y.1))
+
+  infix_done : (p : Place) (i : Ident) (q u : Makes Forest) (c : Place) → ForestMakes z s q (f.expressions 1) → ForestMakes z s u (f.expressions 1)
+      → ForestMakes z s (◌>>=◌ (identifier function_part s c i) (λ x. ◌>>=◌ (both q u) (λ y. gives (form.apply_node p x (form.tuple_node p y))))) (f.expressions 1)
+  infix_done p i q u c a b m v =
+      let r = identifier function_part s c i m in
+      done_both v (identifier_done z s function_part c i m) (both_done {q} {u} a b r.1) (λ g x y. app_form p x (tuple_form p y))
+
+  tuple_exp_done : (p : Place) (q u : Makes Forest) → ForestMakes z s q (f.expressions 1) → SomeExps z s u → ForestMakes z s (◌>>=◌ (both q u) (λ x. gives (form.tuple_node p x))) (f.expressions 1)
+  tuple_exp_done p q u a b m v = done_so (more_done {q} {u} a b m v) (λ g i x. tuple_form p x.1)
+
+  sequence_exp_done : (p : Place) (q u : Makes Forest) → ForestMakes z s q (f.expressions 1) → SomeExps z s u → ForestMakes z s (◌>>=◌ (both q u) (λ x. gives (form.sequence_node p x))) (f.expressions 1)
+  sequence_exp_done p q u a b m v = done_so (more_done {q} {u} a b m v) (λ g i x. sequence_form p x.0 x.1)
+
+  list_exp_done : (p : Place) (q : Makes Forest) → SomeExps z s q → ForestMakes z s (◌>>=◌ q (λ x. gives (form.list_node p x))) (f.expressions 1)
+  list_exp_done p q a m v = done_so (a m v) (λ g i x. list_form p i.base (suc x.0) x.1)
+
+  record_exp_done : (p : Place) (labs : List (Lab × Place)) (q : Makes Forest) → ForestMakes z s q (f.expressions (length labs)) → ForestMakes z s (◌>>◌ (labels_once labs) (◌>>=◌ q (λ x. gives (form.record_node p (map (λ l. l.0) labs) x)))) (f.expressions 1)
+  record_exp_done p labs q d m v =
+      let rs = doubles lab_eq [] labs in
+      let k = (breaks rs m).1 in
+      done_behind v (breaks_grows rs m) (d k)
+      (λ e g x. record_form p (map (λ l. l.0) labs) (no_doubles [] labs (breaks_nothing rs m e.kept))
+        (subst (λ j. Is z g m (q k).1 (f.expressions j) (q k).0) (sym (length-map labs (λ l. l.0))) (before (breaks_quiet rs m) x)))
+
+  typed_exp_done : (p : Place) (t : Term) (q : Makes Forest) → Kinded z.texts Ty t → ForestMakes z s q (f.expressions 1) → ForestMakes z s (◌>>=◌ (type_of s t) (λ ty. ◌>>=◌ q (λ x. gives (form.typed_node p (ty ∷ []) x)))) (f.expressions 1)
+  typed_exp_done p t q h d m v =
+      let y = type_made s t h m v in
+      let x = d (type_of s t m).1 (tyvars_on s.tyvars y.grows v) in
+      record { grows = grows_both y.grows x.grows; says = λ e g i. let b = ends_back x.grows e in
+        typed_form p ((type_of s t m).0 ∷ []) ((let a = y.number in let c = b.types in omega (arith, a, c)), tt) (before y.quiet (x.says e g i)) }
+
+  typed_fn_done : (p : Place) (t : Term) (q : Makes Forest) → Kinded z.texts Ty t → ForestMakes z s q (f.functions 1) → ForestMakes z s (◌>>=◌ (type_of s t) (λ ty. ◌>>=◌ q (λ x. gives (form.typed_node p (ty ∷ []) x)))) (f.functions 1)
+  typed_fn_done p t q h d m v =
+      let y = type_made s t h m v in
+      let x = d (type_of s t m).1 (tyvars_on s.tyvars y.grows v) in
+      record { grows = grows_both y.grows x.grows; says = λ e g i. let b = ends_back x.grows e in
+        typed_function_form p ((type_of s t m).0 ∷ []) ((let a = y.number in let c = b.types in omega (arith, a, c)), tt) (before y.quiet (x.says e g i)) }
+
+  if_done : (p : Place) (q u w : Makes Forest) → ForestMakes z s q (f.expressions 1) → ForestMakes z s u (f.expressions 1) → ForestMakes z s w (f.expressions 1)
+      → ForestMakes z s (◌>>=◌ q (λ x. ◌>>=◌ u (λ y. ◌>>=◌ w (λ o. gives (form.if_node p x y o))))) (f.expressions 1)
+  if_done p q u w a b c m v =
+      let x = q m in let y = u x.1 in
+      done_so (two_done v (a m v) (λ v'. two_done v' (b x.1 v') (c y.1))) (λ g i r. if_form p i.base r.0 r.1.0 r.1.1)
+
+  andalso_done : (p : Place) (q u : Makes Forest) → ForestMakes z s q (f.expressions 1) → ForestMakes z s u (f.expressions 1)
+      → ForestMakes z s (◌>>=◌ q (λ x. ◌>>=◌ u (λ y. gives (form.if_node p x y (form.con_node p form.con_false))))) (f.expressions 1)
+  andalso_done p q u a b m v =
+      done_so (two_done v (a m v) (b (q m).1)) (λ g i r. if_form p i.base r.0 r.1 (con_form p form.con_false (i.base form.con_false (inl refl))))
+
+  orelse_done : (p : Place) (q u : Makes Forest) → ForestMakes z s q (f.expressions 1) → ForestMakes z s u (f.expressions 1)
+      → ForestMakes z s (◌>>=◌ q (λ x. ◌>>=◌ u (λ y. gives (form.if_node p x (form.con_node p form.con_true) y)))) (f.expressions 1)
+  orelse_done p q u a b m v =
+      done_so (two_done v (a m v) (b (q m).1)) (λ g i r. if_form p i.base r.0 (con_form p form.con_true (i.base form.con_true (inr (inl refl)))) r.1)
+
+  while_done : (p : Place) (q u : Makes Forest) → ForestMakes z s q (f.expressions 1) → ForestMakes z s u (f.expressions 1)
+      → ForestMakes z s (◌>>=◌ (new_name (codes "v")) (λ v. ◌>>=◌ q (λ x. ◌>>=◌ u (λ y. gives (form.while_node p v x y))))) (f.expressions 1)
+  while_done p q u a b m v =
+      let v' = length m.names in
+      let k = (new_name (codes "v") m).1 in
+      let d = two_done v (a k v) (b (q k).1) in
+      record { grows = grows_both (name_grows (codes "v") m) d.grows; says = λ e g i.
+        let r = d.says e (with_vars (v' ∷ []) g) (scope_wider (wider_vars (v' ∷ []) g) i) in
+        while_form p v' i.base (name_names (codes "v") m) r.0 r.1 }
+
+  handle_done : (p : Place) (q u : Makes Forest) → ForestMakes z s q (f.expressions 1) → ForestMakes z s u f.rules → ForestMakes z s (◌>>=◌ (both q u) (λ x. gives (grown (bare.Handle 0 []) p x))) (f.expressions 1)
+  handle_done p q u a b m v = done_both v (a m v) (b (q m).1) (λ g x y. handle_form p x y)
+
+  case_done : (p : Place) (q u : Makes Forest) → ForestMakes z s q (f.expressions 1) → ForestMakes z s u f.rules → ForestMakes z s (◌>>=◌ q (λ x. ◌>>=◌ u (λ y. gives (form.case_node p x y)))) (f.expressions 1)
+  case_done p q u a b m v = done_both v (a m v) (b (q m).1) (λ g x y. case_form p x y)
+
+  rows_done : (i j n : ℕ) (q u : Makes Forest) → n ≡ i + j → ForestMakes z s q (f.expressions i) → ForestMakes z s u (f.expressions j) → ForestMakes z s (both q u) (f.expressions n)
+  rows_done i j n q u e a b m v = done_both v (a m v) (b (q m).1) (λ g x y. subst (λ l. Is z g m (u (q m).1).1 (f.expressions l) ((q m).0 & (u (q m).1).0)) (sym e) (join x y))
+
+  counted_as : (n : ℕ) (q : Makes Forest) → n ≡ 1 → ForestMakes z s q (f.expressions 1) → ForestMakes z s q (f.expressions n)
+  counted_as n q e d m v = done_so (d m v) (λ g i x. subst (λ l. Is z g m (q m).1 (f.expressions l) (q m).0) (sym e) x)
+
+  rules_both_done : (q u : Makes Forest) → ForestMakes z s q f.rules → ForestMakes z s u f.rules → ForestMakes z s (both q u) f.rules
+  rules_both_done q u a b m v = done_both v (a m v) (b (q m).1) (λ g x y. join_rules x y)
+
+  -- a pattern and what stands under it
+  rule_done : (q : Makes Pattern) (u : Env → Makes Forest) → PatMakes z s q → ((e : Env) → ForestMakes z (within s e) (u e) (f.expressions 1)) → ForestMakes z s (rule q u) f.rules
+  rule_done q u a b m v =
+      let x = q m in
+      let idents = map (λ (w : Bound). w.ident) x.0.vars in
+      let k = (vars_once x.0.vars x.1).1 in
+      let d = a m v in
+      let gk = grows_both d.grows (idents_grows idents x.1) in
+      let e = b (env_of x.0.vars) k (tyvars_on s.tyvars gk v) in
+      record { grows = grows_both gk e.grows; says = λ r g i.
+        let rk = ends_back e.grows r in
+        rule_form (names_in x.0.vars) (d.says (ends_back (idents_grows idents x.1) rk) g i) (before (idents_quiet idents x.1) (e.says r (with_vars (names_in x.0.vars) g) (scope_bound x.0.vars i))) }
