@@ -103,6 +103,9 @@ PhraseMade z _ t = Unit {0}
 no_clash : {A : Type 0} → false ≡ true → A
 no_clash e = absurd cc
 
+one_more : (j : ℕ) → 1 + suc j ≡ suc (suc j)
+one_more j = omega arith
+
 -- what is no function
 plain_exp : {z : Sizes} {t : Term} → is_fn t ≡ false → is_typed_fn t ≡ false → ((h : Position) (s : Scope) → ForestMakes z s (expressions h s t) (f.expressions 1)) → ExpMade z t
 plain_exp a b d = record { is = d; rules = λ e. no_clash (sym a ∙ e); function = λ e. no_clash (sym b ∙ e) }
@@ -118,23 +121,23 @@ module _ (z : Sizes) (s : Scope) where
   apply_done p a b x y false e m v =
       done_both v (x.is function_part s m v) (y.is elsewhere s (expressions function_part s a m).1) (λ g d r. app_form p d r)
 
-  both_done : {q u : Makes Forest} → ForestMakes z s q (f.expressions 1) → ForestMakes z s u (f.expressions 1) → ForestMakes z s (both q u) (f.expressions 2)
-  both_done {q} {u} a b m v = done_both v (a m v) (b (q m).1) (λ g x y. join x y)
+  both_done : (q u : Makes Forest) → ForestMakes z s q (f.expressions 1) → ForestMakes z s u (f.expressions 1) → ForestMakes z s (both q u) (f.expressions 2)
+  both_done q u a b m v = done_both v (a m v) (b (q m).1) (λ g x y. join x y)
 
-  more_done : {q u : Makes Forest} → ForestMakes z s q (f.expressions 1) → SomeExps z s u → SomeExps z s (both q u)
-  more_done {q} {u} a b m v = done_both v (a m v) (b (q m).1) (λ g x y. (suc y.0, join x y.1))
+  more_done : (q u : Makes Forest) → ForestMakes z s q (f.expressions 1) → SomeExps z s u → SomeExps z s (both q u)
+  more_done q u a b m v = done_both v (a m v) (b (q m).1) (λ g x y. (suc y.0, subst (λ j. Is z g m (u (q m).1).1 (f.expressions j) ((q m).0 & (u (q m).1).0)) (one_more y.0) (join x y.1)))
 
   infix_done : (p : Place) (i : Ident) (q u : Makes Forest) (c : Place) → ForestMakes z s q (f.expressions 1) → ForestMakes z s u (f.expressions 1)
       → ForestMakes z s (◌>>=◌ (identifier function_part s c i) (λ x. ◌>>=◌ (both q u) (λ y. gives (form.apply_node p x (form.tuple_node p y))))) (f.expressions 1)
   infix_done p i q u c a b m v =
       let r = identifier function_part s c i m in
-      done_both v (identifier_done z s function_part c i m) (both_done {q} {u} a b r.1) (λ g x y. app_form p x (tuple_form p y))
+      done_both v (identifier_done z s function_part c i m) (both_done q u a b r.1) (λ g x y. app_form p x (tuple_form p y))
 
   tuple_exp_done : (p : Place) (q u : Makes Forest) → ForestMakes z s q (f.expressions 1) → SomeExps z s u → ForestMakes z s (◌>>=◌ (both q u) (λ x. gives (form.tuple_node p x))) (f.expressions 1)
-  tuple_exp_done p q u a b m v = done_so (more_done {q} {u} a b m v) (λ g i x. tuple_form p x.1)
+  tuple_exp_done p q u a b m v = done_so (more_done q u a b m v) (λ g i x. tuple_form p x.1)
 
   sequence_exp_done : (p : Place) (q u : Makes Forest) → ForestMakes z s q (f.expressions 1) → SomeExps z s u → ForestMakes z s (◌>>=◌ (both q u) (λ x. gives (form.sequence_node p x))) (f.expressions 1)
-  sequence_exp_done p q u a b m v = done_so (more_done {q} {u} a b m v) (λ g i x. sequence_form p x.0 x.1)
+  sequence_exp_done p q u a b m v = done_so (more_done q u a b m v) (λ g i x. sequence_form p x.0 x.1)
 
   list_exp_done : (p : Place) (q : Makes Forest) → SomeExps z s q → ForestMakes z s (◌>>=◌ q (λ x. gives (form.list_node p x))) (f.expressions 1)
   list_exp_done p q a m v = done_so (a m v) (λ g i x. list_form p i.base (suc x.0) x.1)
@@ -214,3 +217,131 @@ module _ (z : Sizes) (s : Scope) where
       record { grows = grows_both gk e.grows; says = λ r g i.
         let rk = ends_back e.grows r in
         rule_form (names_in x.0.vars) (d.says (ends_back (idents_grows idents x.1) rk) g i) (before (idents_quiet idents x.1) (e.says r (with_vars (names_in x.0.vars) g) (scope_bound x.0.vars i))) }
+
+-- ---- Declarations of values
+
+no_function_left : {z : Sizes} {g : Context} {m n : Made} {t : Forest} → Is z g m n (f.functions 0) t → (t ≡ none) × Quiet m n
+no_function_left (before q h) = let r = no_function_left h in (r.0, record { names = r.1.names ∙ q.names; datas = r.1.datas ∙ q.datas })
+no_function_left (after h q) = let r = no_function_left h in (r.0, record { names = q.names ∙ r.1.names; datas = q.datas ∙ r.1.datas })
+no_function_left f.no_function = (refl, record { names = refl; datas = refl })
+
+record FirstTree (t : Forest) : Type 0 where
+  node : Node
+  place : Place
+  parts : Forest
+  rest : Forest
+  same : t ≡ tree node place parts rest
+
+first_function : {z : Sizes} {g : Context} {m n : Made} {j : ℕ} {t : Forest} → Is z g m n (f.functions (suc j)) t → FirstTree t
+first_function (before q h) = first_function h
+first_function (after h q) = first_function h
+first_function (f.more_functions {a = a} {p = p} {parts = parts} {rest = rest} h r) = record { node = a; place = p; parts = parts; rest = rest; same = refl }
+
+plain_dec_form : {z : Sizes} {g : Context} {m n : Made} {j : ℕ} {xs : List ℕ} {t : Forest} (p : Place) (vs : List ℕ) → AllByRecursion (λ v. v < z.tyvars) vs → Is z g m n (bindings j xs) t → Is z g m n (declarations (with_vars xs g)) (plain_dec p vs t)
+plain_dec_form p vs o (before q h) = before q (plain_dec_form p vs o h)
+plain_dec_form p vs o (after h q) = after (plain_dec_form p vs o h) q
+plain_dec_form p vs o f.no_binding = f.no_declaration
+plain_dec_form p vs o (f.more_bindings h i r) = f.more_declarations (f.is_val vs o (f.more_bindings h i r)) f.no_declaration
+
+rec_same : (names : List Bound) → map (λ x. record { name = record { 0 = x }; right = 0 }) (names_in names) ≡ rec_bindings names
+rec_same [] = refl
+rec_same (v ∷ names) = ap (λ l. record { name = record { 0 = v.name }; right = 0 } ∷ l) (rec_same names)
+
+rec_dec_form : {z : Sizes} {g : Context} {m k n : Made} {t : Forest} (p : Place) (vs : List ℕ) (names : List Bound) → AllByRecursion (λ v. v < z.tyvars) vs → Names m (names_in names) k → Is z (with_vars (names_in names) g) k n (f.functions (length (names_in names))) t
+    → Is z g m n (declarations (with_vars (names_in names) g)) (rec_dec p vs names t)
+rec_dec_form {z} {g} {m} {k} {n} {t} p vs [] o e h =
+    let r = no_function_left h in
+    let d : length k.names ≡ length m.names + 0 = e.names in
+    subst (λ x. Is z g m n (declarations g) (rec_dec p vs [] x)) (sym r.0) (before (record { names = omega (arith, d); datas = e.datas }) (after f.no_declaration r.1))
+rec_dec_form {z} {g} {m} {k} {n} {t} p vs (v ∷ names) o e h =
+    let r = first_function h in
+    let x = tree r.node r.place r.parts r.rest in
+    let xs = names_in (v ∷ names) in
+    let h' = subst (λ y. Is z (with_vars xs g) k n (f.functions (length xs)) y) r.same h in
+    let d = f.more_declarations {p = p} (f.is_val_rec vs xs o e h') f.no_declaration in
+    subst (λ y. Is z g m n (declarations (with_vars xs g)) (rec_dec p vs (v ∷ names) y)) (sym r.same)
+    (subst (λ l. Is z g m n (declarations (with_vars xs g)) (grown (bare.ValRec vs l) p x)) (rec_same (v ∷ names)) d)
+
+-- first these, then those
+swap_wider : (xs ys : List Bound) (g : Context) → Wider (with_vars (names_in (xs ++ ys)) g) (with_vars (names_in ys) (with_vars (names_in xs) g))
+swap_wider xs ys g = record { vars = λ v h. go v (among_split v (names_in (xs ++ ys)) g.vars h); cons = λ c h. h }
+  where
+    inner : (v : ℕ) → Among v (names_in xs) ⊎ Among v (names_in ys) → Among v (names_in ys ++ (names_in xs ++ g.vars))
+    inner v (inl h) = among_right v (names_in ys) (names_in xs ++ g.vars) (among_left v (names_in xs) g.vars h)
+    inner v (inr h) = among_left v (names_in ys) (names_in xs ++ g.vars) h
+
+    go : (v : ℕ) → Among v (names_in (xs ++ ys)) ⊎ Among v g.vars → Among v (names_in ys ++ (names_in xs ++ g.vars))
+    go v (inl h) = inner v (among_split v (names_in xs) (names_in ys) (subst (Among v) (map-append (λ w. w.name) xs ys) h))
+    go v (inr h) = among_right v (names_in ys) (names_in xs ++ g.vars) (among_right v (names_in xs) g.vars h)
+
+val_done : (z : Sizes) (s : Scope) (p : Place) (vs b : Term) → Kinded z.texts ValBinds b → BindMade z b → (m : Made) → TyvarsIn s m → DecsDone z s m (decs s (two node.Val p vs b) m)
+val_done z s p vs b h d m v =
+    let o = opens s (tyvars s.names vs) (unguarded b) m in
+    let od = opens_made s (tyvars s.names vs) (unguarded b) m in
+    let s1 = in_scope s o.0 in
+    let v1 = opens_scope s od v in
+    let x = plain_bindings s1 b o.1 in
+    let xd = d.plain s1 o.1 v1 in
+    let v2 = tyvars_on s1.tyvars xd.grows v1 in
+    let r = rec_names s1 false b x.1 in
+    let rd = rec_names_done z s1 b h false x.1 v2 in
+    let idents = map (λ (w : Bound). w.ident) (x.0.vars ++ r.0) in
+    let k = (vars_once (x.0.vars ++ r.0) r.1).1 in
+    let gk = idents_grows idents r.1 in
+    let s2 = within s1 (env_of r.0) in
+    let v3 = tyvars_on s1.tyvars (grows_both rd.grows gk) v2 in
+    let y = rec_rights false s2 b k in
+    let yd = d.rights false s2 k v3 in
+    record { grows = grows_both od.grows (grows_both xd.grows (grows_both rd.grows (grows_both gk yd.grows))); says = λ e g i.
+      let ek = ends_back yd.grows e in
+      let er = ends_back gk ek in
+      let ex = ends_back rd.grows er in
+      let eo = ends_back xd.grows ex in
+      let i1 : ScopeIn g s1 = record { values = i.values; base = i.base } in
+      let xs = xd.says ex g i1 in
+      let g1 = with_vars (names_in x.0.vars) g in
+      let i2 = scope_wider (wider_vars (names_in x.0.vars) g) i1 in
+      let ok = numbers_in z.tyvars eo.tyvars od in
+      let one = before od.quiet (plain_dec_form p (numbers_of o.0) ok xs.1) in
+      let many = rd.many_are er.kept in
+      let count : rec_count false b ≡ length (names_in r.0) = sym (length-map r.0 (λ w. w.name) ∙ many) in
+      let fs = yd.says e (with_vars (names_in r.0) g1) (scope_bound r.0 i2) in
+      let two = rec_dec_form p (numbers_of o.0) r.0 ok (names_quiet (rd.says er.kept) (idents_quiet idents r.1)) (subst (λ j. Is z (with_vars (names_in r.0) g1) k y.1 (f.functions j) y.0) count fs) in
+      record {
+        after = with_vars (names_in r.0) g1;
+        is = join_declarations one two;
+        env = env_wider (swap_wider x.0.vars r.0 g) (env_of (x.0.vars ++ r.0)).values (bound_env g (x.0.vars ++ r.0));
+        wider = wider_both (wider_vars (names_in x.0.vars) g) (wider_vars (names_in r.0) g1);
+      } }
+
+fun_done : (z : Sizes) (s : Scope) (p : Place) (vs b : Term) → Kinded z.texts FunBinds b → ((s : Scope) → ForestMakes z s (clauses.function b (functions s b)) (f.functions (fun_count b))) → (m : Made) → TyvarsIn s m → DecsDone z s m (decs s (two node.Fun p vs b) m)
+fun_done z s p vs b h d m v =
+    let o = opens s (tyvars s.names vs) (unguarded b) m in
+    let od = opens_made s (tyvars s.names vs) (unguarded b) m in
+    let s1 = in_scope s o.0 in
+    let v1 = opens_scope s od v in
+    let r = binds_functions s.names b o.1 in
+    let rd = binds_functions_done s.names b h o.1 in
+    let idents = map (λ (w : Bound). w.ident) r.0 in
+    let k = (vars_once r.0 r.1).1 in
+    let gk = idents_grows idents r.1 in
+    let s2 = within s1 (env_of r.0) in
+    let v3 = tyvars_on s1.tyvars (grows_both rd.grows gk) v1 in
+    let y = clauses.function b (functions s2 b) k in
+    let yd = d s2 k v3 in
+    record { grows = grows_both od.grows (grows_both rd.grows (grows_both gk yd.grows)); says = λ e g i.
+      let ek = ends_back yd.grows e in
+      let er = ends_back gk ek in
+      let eo = ends_back rd.grows er in
+      let i1 : ScopeIn g s1 = record { values = i.values; base = i.base } in
+      let ok = numbers_in z.tyvars eo.tyvars od in
+      let many = rd.many_are er.kept in
+      let count : fun_count b ≡ length (names_in r.0) = sym (length-map r.0 (λ w. w.name) ∙ many) in
+      let fs = yd.says e (with_vars (names_in r.0) g) (scope_bound r.0 i1) in
+      let two = rec_dec_form p (numbers_of o.0) r.0 ok (names_quiet (rd.says er.kept) (idents_quiet idents r.1)) (subst (λ j. Is z (with_vars (names_in r.0) g) k y.1 (f.functions j) y.0) count fs) in
+      record {
+        after = with_vars (names_in r.0) g;
+        is = before od.quiet two;
+        env = bound_env g r.0;
+        wider = wider_vars (names_in r.0) g;
+      } }
