@@ -2,7 +2,7 @@
 use Rattle.std.proofs.Common.{◌≡◌, ℕ, zero, suc, ◌<◌, ◌≤◌, ◌+◌, true, false, List, [], ◌∷◌, ◌++◌, map, length, refl, sym, ap, subst, ◌∙◌, Option, Some, None, arith, inl, inr, ◌⊎◌, if◌then◌else◌}
 use Rattle.std.specs.Prelude.{Bool, codes}
 use Rattle.std.specs.List.{AllByRecursion}
-use Rattle.std.proofs.lemmas.List.{length-append, length-map, map-append}
+use Rattle.std.proofs.lemmas.List.{length-append, length-map, map-append, append-nil}
 use Rattle.smlc_base.specs.declared.place.Place.{Place}
 use Rattle.smlc_base.specs.declared.refusal.Refusal.{Refusal}
 use Rattle.smlc_base.specs.declared.refusal.Refusal.TheVariants as refusal
@@ -35,7 +35,7 @@ use Rattle.expansion_laws.proofs.Contexts.{Among, Context, with_vars, ConIn, Mea
 use Rattle.expansion_laws.proofs.Forms as f
 use Rattle.expansion_laws.proofs.Forms.{Sizes, Quiet, Names, Is, Part, before, after, bindings, declarations}
 use Rattle.expansion_laws.proofs.Growing.{Grows, grows_same, grows_both, breaks_grows, breaks_quiet, breaks_nothing, name_grows, name_names, TyvarsIn, tyvars_on, Ends, ends_back, Done, done_same, done_so, done_both, done_behind, done_before}
-use Rattle.expansion_laws.proofs.Joined.{join, join_patterns, join_rules, join_functions, join_bindings, join_declarations, one_expression, app_form, case_form, handle_form, rule_form, binding_form, con_form}
+use Rattle.expansion_laws.proofs.Joined.{one_function, join, join_patterns, join_rules, join_functions, join_bindings, join_declarations, one_expression, app_form, case_form, handle_form, rule_form, binding_form, con_form}
 use Rattle.expansion_laws.proofs.Derived.{no_doubles, HasBase, record_form, tuple_form, unit_form, if_form, sequence_form, list_form, typed_form, typed_function_form, variable_form, unless_one_pattern_form, nest_form, eta_form, while_form, under, wider_under, function_form}
 use Rattle.expansion_laws.proofs.Kinded as k
 use Rattle.expansion_laws.proofs.Kinded.{Kind, Kinded, Exp, Exps, Rows, Rules, Pat, Ty, Dec, Decs as DecList, ValBind, ValBinds, Clause, Clauses, FunBinds}
@@ -345,3 +345,223 @@ fun_done z s p vs b h d m v =
         env = bound_env g r.0;
         wider = wider_vars (names_in r.0) g;
       } }
+
+-- ---- Bindings
+
+bind_done : (z : Sizes) (p : Place) (q a : Term) → Kinded z.texts Pat q → ExpMade z a → BindMade z (two node.ValBind p q a)
+bind_done z p q a h d = record {
+  plain = λ s m v. let x = patterns s q m in
+    done_both v (patterns_made z Pat s q h m v) (d.is elsewhere s x.1) (λ g i j. (1, subst (λ l. Is z g m (expressions elsewhere s a x.1).1 (bindings 1 l) (x.0.forest & (expressions elsewhere s a x.1).0)) (append-nil (names_in x.0.vars)) (binding_form (names_in x.0.vars) i j)));
+  rights = λ inside s m v. right inside s m v;
+}
+  where
+    right : (inside : Bool) (s : Scope) → ForestMakes z s (rec_rights inside s (two node.ValBind p q a)) (f.functions (rec_count inside (two node.ValBind p q a)))
+    right false s m v = done_same (λ g i. f.no_function)
+    right true s m v =
+        let rs = fn_on_the_right a in
+        let k = (breaks rs m).1 in
+        let ts = annotations s q k in
+        let t = annotations_done s q h k v in
+        let w = tyvars_on s.tyvars t.grows v in
+        let x = d.is elsewhere s ts.1 w in
+        record { grows = grows_both (breaks_grows rs m) (grows_both t.grows x.grows); says = λ e g i.
+          let b = ends_back x.grows e in
+          let c = ends_back t.grows b in
+          typed_function_form (place_at a) ts.0 (in_all ts.0 b.types t.all)
+          (before (quiet_both (breaks_quiet rs m) t.quiet) ((d.function (is_fn_there (breaks_nothing rs m c.kept)) s ts.1 w).says e g i)) }
+      where
+        in_all : {i j : ℕ} (xs : List ℕ) → i ≤ j → AllByRecursion (λ x. x < i) xs → AllByRecursion (λ x. x < j) xs
+        in_all [] le h = tt
+        in_all (x ∷ xs) le h = ((let y = h.0 in omega (arith, y, le)), in_all xs le h.1)
+
+        is_fn_there : fn_on_the_right a ≡ [] → is_typed_fn a ≡ true
+        is_fn_there e = go (is_typed_fn a) e
+          where
+            go : (b : Bool) → (if b then [] else refusal.BadBinding (place_at a) ∷ []) ≡ [] → b ≡ true
+            go true e = refl
+            go false e = cc
+
+more_binds_done : (z : Sizes) (p : Place) (a b : Term) → BindMade z a → BindMade z b → BindMade z (two node.MoreValBinds p a b)
+more_binds_done z p a b d e = record {
+  plain = λ s m v. let x = plain_bindings s a m in let y = plain_bindings s b x.1 in
+    done_both v (d.plain s m v) (e.plain s x.1) (λ g i j. (i.0 + j.0, subst (λ l. Is z g m y.1 (bindings (i.0 + j.0) l) (x.0.forest & y.0.forest)) (sym (map-append (λ w. w.name) x.0.vars y.0.vars)) (join_bindings i.1 j.1)));
+  rights = right;
+}
+  where
+    right : (inside : Bool) (s : Scope) → ForestMakes z s (rec_rights inside s (two node.MoreValBinds p a b)) (f.functions (rec_count inside (two node.MoreValBinds p a b)))
+    right true s m v = done_both v (d.rights true s m v) (e.rights true s (rec_rights true s a m).1) (λ g i j. join_functions i j)
+    right false s m v = done_both v (d.rights false s m v) (e.rights false s (rec_rights false s a m).1) (λ g i j. join_functions i j)
+
+rec_binds_done : (z : Sizes) (p : Place) (a : Term) → BindMade z a → BindMade z (one node.Rec p a)
+rec_binds_done z p a d = record { plain = λ s m v. done_same (λ g i. (0, f.no_binding)); rights = right }
+  where
+    right : (inside : Bool) (s : Scope) → ForestMakes z s (rec_rights inside s (one node.Rec p a)) (f.functions (rec_count inside (one node.Rec p a)))
+    right true s m v = d.rights true s m v
+    right false s m v = d.rights true s m v
+
+-- ---- Functions
+
+clause_done : (z : Sizes) (p : Place) (h a : Term) → Kinded z.texts k.Head h → ExpMade z a → (s : Scope) → ForestMakes z s (functions s (two node.Clause p h a)) f.rules
+clause_done z p h a c d s m v =
+    let x = arguments s h m in
+    let idents = map (λ (w : Bound). w.ident) x.0.vars in
+    let k = (vars_once x.0.vars x.1).1 in
+    let b = arguments_done z s h c m v in
+    let gk = grows_both b.grows (idents_grows idents x.1) in
+    let e = d.is elsewhere (within s (env_of x.0.vars)) k (tyvars_on s.tyvars gk v) in
+    record { grows = grows_both gk e.grows; says = λ r g i.
+      let rk = ends_back e.grows r in
+      let q = b.says (ends_back (idents_grows idents x.1) rk) g i in
+      rule_form (names_in x.0.vars) (unless_one_pattern_form p q.1) (before (idents_quiet idents x.1) (e.says r (with_vars (names_in x.0.vars) g) (scope_bound x.0.vars i))) }
+
+typed_clause_done : (z : Sizes) (p : Place) (h t a : Term) → Kinded z.texts k.Head h → Kinded z.texts Ty t → ExpMade z a → (s : Scope) → ForestMakes z s (functions s (three node.TypedClause p h t a)) f.rules
+typed_clause_done z p h t a c u d s m v =
+    let x = arguments s h m in
+    let idents = map (λ (w : Bound). w.ident) x.0.vars in
+    let k = (vars_once x.0.vars x.1).1 in
+    let b = arguments_done z s h c m v in
+    let gk = grows_both b.grows (idents_grows idents x.1) in
+    let n = type_of s t k in
+    let y = type_made s t u k (tyvars_on s.tyvars gk v) in
+    let gn = grows_both gk y.grows in
+    let e = d.is elsewhere (within s (env_of x.0.vars)) n.1 (tyvars_on s.tyvars gn v) in
+    record { grows = grows_both gn e.grows; says = λ r g i.
+      let rn = ends_back e.grows r in
+      let rk = ends_back y.grows rn in
+      let q = b.says (ends_back (idents_grows idents x.1) rk) g i in
+      let le = y.number in let le' = rn.types in
+      rule_form (names_in x.0.vars) (unless_one_pattern_form p q.1)
+        (typed_form (place_at a) (n.0 ∷ []) ((omega (arith, le, le')), tt) (before (quiet_both (idents_quiet idents x.1) y.quiet) (e.says r (with_vars (names_in x.0.vars) g) (scope_bound x.0.vars i)))) }
+
+function_of_done : (z : Sizes) (s : Scope) (p : Place) (n j : ℕ) → n ≡ suc j → (q : Makes Forest) → ForestMakes z s q f.rules → ForestMakes z s (function_of n p q) (f.functions 1)
+function_of_done z s p n j e q d = subst (λ i. ForestMakes z s (function_of i p q) (f.functions 1)) (sym e) (λ m v.
+    let text = codes "v" in
+    let vs = new_names text (suc j) m in
+    let g0 = new_names_grow text (suc j) m in
+    let x = d vs.1 (tyvars_on s.tyvars g0 v) in
+    record { grows = grows_both g0 x.grows; says = λ r g i.
+      function_form p (length m.names) (new_names text j (new_name text m).1).0 g m (new_names_are text (suc j) m) (x.says r (under vs.0 g) (scope_wider (wider_under vs.0 g) i)) })
+
+one_fun_done : (z : Sizes) (t : Term) → Kinded z.texts Clauses t → ((s : Scope) → ForestMakes z s (functions s t) f.rules) → (s : Scope) → ForestMakes z s (clauses.function t (functions s t)) (f.functions 1)
+one_fun_done z t h d s =
+    let n = function_some t h in
+    subst (λ q. ForestMakes z s q (f.functions 1)) (sym (function_same t h (functions s t))) (function_of_done z s (place_at t) (arguments_in (head (first_clause t))) n.less n.same (functions s t) (d s))
+
+one_fun_counted : (z : Sizes) (t : Term) → Kinded z.texts Clauses t → ((s : Scope) → ForestMakes z s (functions s t) f.rules) → (s : Scope) → ForestMakes z s (clauses.function t (functions s t)) (f.functions (fun_count t))
+one_fun_counted z t h d s = subst (λ j. ForestMakes z s (clauses.function t (functions s t)) (f.functions j)) (sym (count_one t h)) (one_fun_done z t h d s)
+  where
+    count_one : {texts : ℕ} (t : Term) → Kinded texts Clauses t → fun_count t ≡ 1
+    count_one t (k.one_clause (k.clause p i j)) = refl
+    count_one t (k.one_clause (k.typed_clause p i j l)) = refl
+    count_one t (k.more_clauses p i j) = refl
+
+more_funs_done : (z : Sizes) (p : Place) (a b : Term) → ((s : Scope) → ForestMakes z s (clauses.function a (functions s a)) (f.functions 1)) → ((s : Scope) → ForestMakes z s (clauses.function b (functions s b)) (f.functions (fun_count b)))
+    → (s : Scope) → ForestMakes z s (clauses.function (two node.MoreFunBinds p a b) (functions s (two node.MoreFunBinds p a b))) (f.functions (suc (fun_count b)))
+more_funs_done z p a b d e s m v =
+    let x = clauses.function a (functions s a) m in
+    let y = clauses.function b (functions s b) x.1 in
+    let w : 1 + fun_count b ≡ suc (fun_count b) = omega arith in
+    done_both v (d s m v) (e s x.1) (λ g i j. subst (λ l. Is z g m y.1 (f.functions l) (x.0 & y.0)) w (join_functions i j))
+
+-- ---- Declarations one behind the other
+
+let_done : (z : Sizes) (p : Place) (d a : Term) → ((s : Scope) (m : Made) → TyvarsIn s m → DecsDone z s m (decs s d m)) → ((s : Scope) → SomeExps z s (expressions elsewhere s a)) → (h : Position) (s : Scope) → ForestMakes z s (expressions h s (two node.Let p d a)) (f.expressions 1)
+let_done z p d a x y h s m v =
+    let r = decs s d m in
+    let rd = x s m v in
+    let yd = y (within s r.0.env) r.1 (tyvars_on s.tyvars rd.grows v) in
+    record { grows = grows_both rd.grows yd.grows; says = λ e g i.
+      let o = rd.says (ends_back yd.grows e) g i in
+      let u = yd.says e o.after (scope_within r.0.env o.wider o.env i) in
+      nest_form p o.is (sequence_form p u.0 u.1) }
+
+more_decs_done : (z : Sizes) (p : Place) (a b : Term) → ((s : Scope) (m : Made) → TyvarsIn s m → DecsDone z s m (decs s a m)) → ((s : Scope) (m : Made) → TyvarsIn s m → DecsDone z s m (decs s b m)) → (s : Scope) (m : Made) → TyvarsIn s m → DecsDone z s m (decs s (two node.MoreDecs p a b) m)
+more_decs_done z p a b x y s m v =
+    let r = decs s a m in
+    let rd = x s m v in
+    let u = decs (within s r.0.env) b r.1 in
+    let ud = y (within s r.0.env) r.1 (tyvars_on s.tyvars rd.grows v) in
+    record { grows = grows_both rd.grows ud.grows; says = λ e g i.
+      let o = rd.says (ends_back ud.grows e) g i in
+      let q = ud.says e o.after (scope_within r.0.env o.wider o.env i) in
+      record { after = q.after; is = join_declarations o.is q.is; env = env_both q.after u.0.env.values r.0.env.values q.env (env_wider q.wider r.0.env.values o.env); wider = wider_both o.wider q.wider } }
+
+local_done : (z : Sizes) (p : Place) (a b : Term) → ((s : Scope) (m : Made) → TyvarsIn s m → DecsDone z s m (decs s a m)) → ((s : Scope) (m : Made) → TyvarsIn s m → DecsDone z s m (decs s b m)) → (s : Scope) (m : Made) → TyvarsIn s m → DecsDone z s m (decs s (two node.Local p a b) m)
+local_done z p a b x y s m v =
+    let r = decs s a m in
+    let rd = x s m v in
+    let ud = y (within s r.0.env) r.1 (tyvars_on s.tyvars rd.grows v) in
+    record { grows = grows_both rd.grows ud.grows; says = λ e g i.
+      let o = rd.says (ends_back ud.grows e) g i in
+      let q = ud.says e o.after (scope_within r.0.env o.wider o.env i) in
+      record { after = q.after; is = join_declarations o.is q.is; env = q.env; wider = wider_both o.wider q.wider } }
+
+nothing_done : (z : Sizes) (s : Scope) (m : Made) → Done z s m m (DecsIn z m m none [])
+nothing_done z s m = done_same (λ g i. record { after = g; is = f.no_declaration; env = tt; wider = wider_same g })
+
+-- ---- The whole
+
+pub phrases_made : (z : Sizes) (c : Kind) (t : Term) → Kinded z.texts c t → PhraseMade z c t
+phrases_made z c t (k.vid x p) = plain_exp refl refl (λ h s m v. identifier_done z s h p (ident s.names t) m)
+phrases_made z c t (k.long_vid x p) = plain_exp refl refl (λ h s m v. identifier_done z s h p (ident s.names t) m)
+phrases_made z c t (k.op p a) = plain_exp refl refl (λ h s m v. identifier_done z s h p (ident s.names a) m)
+phrases_made z c t (k.int i p o) = plain_exp refl refl (λ h s m v. done_same (λ g w. one_expression p (f.is_int i o)))
+phrases_made z c t (k.char x p o) = plain_exp refl refl (λ h s m v. done_same (λ g w. one_expression p (f.is_char x o)))
+phrases_made z c t (k.text x p o) = plain_exp refl refl (λ h s m v. done_same (λ g w. one_expression p (f.is_text x o)))
+phrases_made z c t (k.unit p) = plain_exp refl refl (λ h s m v. done_same (λ g w. unit_form p))
+phrases_made z c t (k.empty_record p) = plain_exp refl refl (λ h s m v. done_same (λ g w. unit_form p))
+phrases_made z c t (k.empty_list p) = plain_exp refl refl (λ h s m v. done_same (λ g w. list_form p w.base 0 f.no_expression))
+phrases_made z c t (k.paren p {a} d) = let x = phrases_made z Exp a d in record { is = x.is; rules = x.rules; function = x.function }
+phrases_made z c t (k.apply p {a} {b} d e) = let x = phrases_made z Exp a d in let y = phrases_made z Exp b e in plain_exp refl refl (λ h s. apply_done z s p a b x y (is_fn a) refl)
+phrases_made z c t (k.infix_exp p {a} {b} w d e) = let x = phrases_made z Exp a d in let y = phrases_made z Exp b e in plain_exp refl refl (λ h s. infix_done z s p (ident s.names w) (expressions elsewhere s a) (expressions elsewhere s b) (place_at w) (x.is elsewhere s) (y.is elsewhere s))
+phrases_made z c t (k.tuple p {a} {b} d e) = let x = phrases_made z Exp a d in let y = phrases_made z Exps b e in plain_exp refl refl (λ h s. tuple_exp_done z s p (expressions elsewhere s a) (expressions elsewhere s b) (x.is elsewhere s) (y s))
+phrases_made z c t (k.record_exp p {a} d) = let x = phrases_made z Rows a d in plain_exp refl refl (λ h s. record_exp_done z s p (labels s.names a) (expressions elsewhere s a) (x s))
+phrases_made z c t (k.list p {a} d) = let x = phrases_made z Exps a d in plain_exp refl refl (λ h s. list_exp_done z s p (expressions elsewhere s a) (x s))
+phrases_made z c t (k.sequence p {a} {b} d e) = let x = phrases_made z Exp a d in let y = phrases_made z Exps b e in plain_exp refl refl (λ h s. sequence_exp_done z s p (expressions elsewhere s a) (expressions elsewhere s b) (x.is elsewhere s) (y s))
+phrases_made z c t (k.typed p {a} {t = u} d e) = let x = phrases_made z Exp a d in record {
+  is = λ h s. typed_exp_done z s p u (expressions elsewhere s a) e (x.is elsewhere s);
+  rules = λ q. no_clash q;
+  function = λ q s. typed_fn_done z s p u (expressions elsewhere s a) e (x.function q s);
+}
+phrases_made z c t (k.andalso p {a} {b} d e) = let x = phrases_made z Exp a d in let y = phrases_made z Exp b e in plain_exp refl refl (λ h s. andalso_done z s p (expressions elsewhere s a) (expressions elsewhere s b) (x.is elsewhere s) (y.is elsewhere s))
+phrases_made z c t (k.orelse p {a} {b} d e) = let x = phrases_made z Exp a d in let y = phrases_made z Exp b e in plain_exp refl refl (λ h s. orelse_done z s p (expressions elsewhere s a) (expressions elsewhere s b) (x.is elsewhere s) (y.is elsewhere s))
+phrases_made z c t (k.if_exp p {a} {b} {c = o} d e i) = let x = phrases_made z Exp a d in let y = phrases_made z Exp b e in let w = phrases_made z Exp o i in
+    plain_exp refl refl (λ h s. if_done z s p (expressions elsewhere s a) (expressions elsewhere s b) (expressions elsewhere s o) (x.is elsewhere s) (y.is elsewhere s) (w.is elsewhere s))
+phrases_made z c t (k.while p {a} {b} d e) = let x = phrases_made z Exp a d in let y = phrases_made z Exp b e in plain_exp refl refl (λ h s. while_done z s p (expressions elsewhere s a) (expressions elsewhere s b) (x.is elsewhere s) (y.is elsewhere s))
+phrases_made z c t (k.raise p {a} d) = let x = phrases_made z Exp a d in plain_exp refl refl (λ h s m v. done_so (x.is elsewhere s m v) (λ g i r. one_expression p (f.is_raise r)))
+phrases_made z c t (k.handle p {a} {m = b} d e) = let x = phrases_made z Exp a d in let y = phrases_made z Rules b e in plain_exp refl refl (λ h s. handle_done z s p (expressions elsewhere s a) (rules s b) (x.is elsewhere s) (y s))
+phrases_made z c t (k.case p {a} {m = b} d e) = let x = phrases_made z Exp a d in let y = phrases_made z Rules b e in plain_exp refl refl (λ h s. case_done z s p (expressions elsewhere s a) (rules s b) (x.is elsewhere s) (y s))
+phrases_made z c t (k.fn p {m = b} d) = let y = phrases_made z Rules b d in record {
+  is = λ h s m v. done_so (y s m v) (λ g i r. one_expression p (f.is_fn r));
+  rules = λ q h s m v. y s m v;
+  function = λ q s m v. done_so (y s m v) (λ g i r. one_function p (f.fn_function r));
+}
+phrases_made z c t (k.let_exp p {d} {a} x y) = plain_exp refl refl (let_done z p d a (phrases_made z DecList d x) (phrases_made z Exps a y))
+phrases_made z c t (k.one_exp d) = let x = phrases_made z Exp t d in λ s m v. done_so (x.is elsewhere s m v) (λ g i r. (0, r))
+phrases_made z c t (k.more_items p {a} {b} d e) = let x = phrases_made z Exp a d in let y = phrases_made z Exps b e in λ s. more_done z s (expressions elsewhere s a) (expressions elsewhere s b) (x.is elsewhere s) (y s)
+phrases_made z c t (k.more_seq p {a} {b} d e) = let x = phrases_made z Exp a d in let y = phrases_made z Exps b e in λ s. more_done z s (expressions elsewhere s a) (expressions elsewhere s b) (x.is elsewhere s) (y s)
+phrases_made z c t (k.row p {l} {a} d e) = let x = phrases_made z Exp a e in λ s. counted_as z s (length (labels s.names l)) (expressions elsewhere s a) (one_label s.names l d) (x.is elsewhere s)
+phrases_made z c t (k.more_rows p {a} {b} d e) = let x = phrases_made z Rows a d in let y = phrases_made z Rows b e in λ s.
+    rows_done z s (length (labels s.names a)) (length (labels s.names b)) (length (labels s.names a ++ labels s.names b)) (expressions elsewhere s a) (expressions elsewhere s b) (length-append (labels s.names a) (labels s.names b)) (x s) (y s)
+phrases_made z c t (k.rule p {q} {a} d e) = let x = phrases_made z Exp a e in λ s. rule_done z s (patterns s q) (λ env. expressions elsewhere (within s env) a) (patterns_made z Pat s q d) (λ env. x.is elsewhere (within s env))
+phrases_made z c t (k.more_rules p {a} {b} d e) = let x = phrases_made z Rules a d in let y = phrases_made z Rules b e in λ s. rules_both_done z s (rules s a) (rules s b) (x s) (y s)
+phrases_made z c t (k.val p vs {b} d) = let x = phrases_made z ValBinds b d in λ s. val_done z s p vs b d x
+phrases_made z c t (k.fun p vs {b} d) = let x = phrases_made z FunBinds b d in λ s. fun_done z s p vs b d x
+phrases_made z c t (k.type_dec p {b} d) = λ s. type_dec_done z s p b d
+phrases_made z c t (k.datatype p {b} d) = λ s. datatype_dec_done z s p b d
+phrases_made z c t (k.exception_dec p {b} d) = λ s. exception_dec_done z s p b d
+phrases_made z c t (k.local p {a} {b} d e) = local_done z p a b (phrases_made z DecList a d) (phrases_made z DecList b e)
+phrases_made z c t (k.directive x p a) = λ s m v. nothing_done z s m
+phrases_made z c t (k.no_decs p) = λ s m v. nothing_done z s m
+phrases_made z c t (k.more_decs p {a} {b} d e) = more_decs_done z p a b (phrases_made z Dec a d) (phrases_made z DecList b e)
+phrases_made z c t (k.val_bind p {q} {a} d e) = bind_done z p q a d (phrases_made z Exp a e)
+phrases_made z c t (k.one_val_bind d) = phrases_made z ValBind t d
+phrases_made z c t (k.more_val_binds p {a} {b} d e) = more_binds_done z p a b (phrases_made z ValBind a d) (phrases_made z ValBinds b e)
+phrases_made z c t (k.rec_binds p {a} d) = rec_binds_done z p a (phrases_made z ValBinds a d)
+phrases_made z c t (k.clause p {h} {a} d e) = clause_done z p h a d (phrases_made z Exp a e)
+phrases_made z c t (k.typed_clause p {h} {t = u} {a} d o e) = typed_clause_done z p h u a d o (phrases_made z Exp a e)
+phrases_made z c t (k.one_clause d) = phrases_made z Clause t d
+phrases_made z c t (k.more_clauses p {a} {b} d e) = let x = phrases_made z Clause a d in let y = phrases_made z Clauses b e in λ s. rules_both_done z s (functions s a) (functions s b) (x s) (y s)
+phrases_made z c t (k.one_fun d) = one_fun_counted z t d (phrases_made z Clauses t d)
+phrases_made z c t (k.more_funs p {a} {b} d e) = more_funs_done z p a b (one_fun_done z a d (phrases_made z Clauses a d)) (phrases_made z FunBinds b e)
+phrases_made z c t _ = tt
