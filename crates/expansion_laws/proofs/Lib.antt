@@ -10,3 +10,4 @@ pub mod PatternsDone
 pub mod DeclarationsDone
 pub mod NamesDone
 pub mod ExpressionsDone
+pub mod Positions
