@@ -11,3 +11,4 @@ pub mod DeclarationsDone
 pub mod NamesDone
 pub mod ExpressionsDone
 pub mod Positions
+pub mod Sorts
