@@ -67,8 +67,8 @@ LabelsOnce seen [] = Unit {0}
 LabelsOnce seen (l ∷ labs) = (list_any (lab_eq l) seen ≡ false) × LabelsOnce (l ∷ seen) labs
 
 pub data Part : Type 0 where
-  -- what a node is over its parts: an expression, a function, a pattern that binds these, a declaration that leaves this context
-  expression function : Node → Part
+  -- what a node is over its parts: an expression, a function, the rest of a program, a pattern that binds these, a declaration that leaves this context
+  expression function program : Node → Part
   pattern : Node → List ℕ → Part
   declaration : Node → Context → Part
   -- so many of them
@@ -146,3 +146,7 @@ pub data Is (z : Sizes) : Context → Made → Made → Part → Forest → Type
   is_exception : {g : Context} {m n : Made} (x : ℕ) (arg : Option ℕ) → Names m (x ∷ []) n → ArgIn z.types arg → Is z g m n (declaration (node.Exception (record { 0 = x }) arg) (with_vars (x ∷ []) g)) none
   same_exception : {g : Context} {m n : Made} (x : ℕ) (c : Con) → Names m (x ∷ []) n → ConIn g c → Is z g m n (declaration (node.SameException (record { 0 = x }) c) (with_vars (x ∷ []) g)) none
   not_exception : {g : Context} {m n : Made} (x : ℕ) → Names m (x ∷ []) n → Is z g m n (declaration (node.NoException (record { 0 = x })) (with_vars (x ∷ []) g)) none
+  -- the rest of a program
+  program_end : {g : Context} {m : Made} → Is z g m m (program node.Finish) none
+  program_let : {g h : Context} {m k n : Made} {a b : Node} {p q : Place} {parts inner : Forest}
+      → Is z g m k (declaration a h) parts → Is z h k n (program b) inner → Is z g m n (program (node.Let 0 0)) (tree a p parts (tree b q inner none))

@@ -12,3 +12,4 @@ pub mod NamesDone
 pub mod ExpressionsDone
 pub mod Positions
 pub mod Sorts
+pub mod Spans

@@ -56,13 +56,13 @@ rec_parts [] (x ∷ fs) e = cc
 rec_parts (r ∷ rs) [] e = cc
 rec_parts (r ∷ rs) (x ∷ bs) e = ap (λ l. r ∷ l) (rec_parts rs bs (let h : length rs ≡ length bs = omega (arith, e) in h))
 
-abbrev rec_of : List ℕ → List RecBinding
+abbrev pub rec_of : List ℕ → List RecBinding
 rec_of xs = map (λ x. record { name = record { 0 = x }; right = 0 }) xs
 
-many_fields : (labs : List Lab) (i : ℕ) (t : Forest) → count t ≡ length labs → length (roots i t) ≡ length (fields labs)
+pub many_fields : (labs : List Lab) (i : ℕ) (t : Forest) → count t ≡ length labs → length (roots i t) ≡ length (fields labs)
 many_fields labs i t e = many_roots i t ∙ e ∙ sym (length-map {B = Field} labs (λ l. record { lab = l; slot = slot labs l; node = 0 }))
 
-many_rec : (xs : List ℕ) (i : ℕ) (t : Forest) → count t ≡ length xs → length (roots i t) ≡ length (rec_of xs)
+pub many_rec : (xs : List ℕ) (i : ℕ) (t : Forest) → count t ≡ length xs → length (roots i t) ≡ length (rec_of xs)
 many_rec xs i t e = many_roots i t ∙ e ∙ sym (length-map {B = RecBinding} xs (λ x. record { name = record { 0 = x }; right = 0 }))
 
 -- ---- Parts
@@ -70,6 +70,7 @@ many_rec xs i t e = many_roots i t ∙ e ∙ sym (length-map {B = RecBinding} xs
 abbrev pub FitOf : Part → Forest → Type 0
 FitOf (f.expression a) t = Fits a t × Fit t
 FitOf (f.function a) t = Fits a t × Fit t
+FitOf (f.program a) t = Fits a t × Fit t
 FitOf (f.pattern a xs) t = Fits a t × Fit t
 FitOf (f.declaration a h) t = Fits a t × Fit t
 FitOf f.rules t = Fit t × ((i : ℕ) → flat_map rule_parts (rules_at (roots i t)) ≡ roots i t)
@@ -132,6 +133,8 @@ fit_of r t (f.is_datatype bs o e i) = ((λ j. refl), tt)
 fit_of r t (f.is_exception x arg e o) = ((λ j. refl), tt)
 fit_of r t (f.same_exception x c e o) = ((λ j. refl), tt)
 fit_of r t (f.not_exception x e) = ((λ j. refl), tt)
+fit_of r t f.program_end = ((λ j. refl), tt)
+fit_of r t (f.program_let {h = d} {a = a} {b = b} {parts = parts} {inner = inner} h i) = let x = fit_of (f.declaration a d) parts h in let y = fit_of (f.program b) inner i in ((λ j. refl), (x.0, x.1, (y.0, y.1, tt)))
 
 -- ---- Sorts
 
@@ -147,6 +150,7 @@ module _ (nodes : List Node) (fn : (i : ℕ) (n : Node) → slice_get nodes i �
   SortOf (f.expression a) t = NodeSorted Expression a t
   SortOf (f.function a) t = NodeSorted Expression a t × ((i j : ℕ) → At nodes j t → function_of (is_function nodes) i (with_parts a (roots j t)) ≡ true)
   SortOf (f.pattern a xs) t = NodeSorted Pattern a t
+  SortOf (f.program a) t = NodeSorted Expression a t
   SortOf (f.declaration a h) t = NodeSorted Declaration a t
   SortOf f.rules t = (i : ℕ) → At nodes i t → HasRules nodes (rules_at (roots i t)) × Sorted i t
   SortOf (f.bindings j xs) t = (i : ℕ) → At nodes i t → AllByRecursion (λ b. IsOf nodes Pattern b.pat × IsOf nodes Expression b.right) (bindings_at (roots i t)) × Sorted i t
@@ -275,3 +279,8 @@ module _ (nodes : List Node) (fn : (i : ℕ) (n : Node) → slice_get nodes i �
   sort_of_part r t (f.is_exception x arg e o) = ((λ rs. refl), λ j at. (tt, tt))
   sort_of_part r t (f.same_exception x c e o) = ((λ rs. refl), λ j at. (tt, tt))
   sort_of_part r t (f.not_exception x e) = ((λ rs. refl), λ j at. (tt, tt))
+  sort_of_part r t f.program_end = ((λ rs. refl), λ j at. (tt, tt))
+  sort_of_part r t (f.program_let {h = e} {a = a} {b = b} {parts = parts} {inner = inner} h i) = ((λ rs. refl), λ j at.
+      let x = sort_of_part (f.declaration a e) parts h in let y = sort_of_part (f.program b) inner i in
+      let d = x.1 (suc j) at.1 in let w = y.1 (suc (suc (j + size parts))) at.2.1 in
+      ((is_of _ Declaration at.0 (x.0 (roots (suc j) parts)), is_of _ Expression at.2.0 (y.0 (roots (suc (suc (j + size parts))) inner))), (d.0, d.1, (w.0, w.1, tt))))
