@@ -13,3 +13,4 @@ pub mod ExpressionsDone
 pub mod Positions
 pub mod Sorts
 pub mod Spans
+pub mod ProgramsDone
