@@ -14,3 +14,4 @@ pub mod Positions
 pub mod Sorts
 pub mod Spans
 pub mod ProgramsDone
+pub mod Clauses

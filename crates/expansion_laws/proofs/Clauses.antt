@@ -1,0 +1,98 @@
+-- What the bare tree of a program keeps, clause by clause.
+use Rattle.std.proofs.Common.{◌≡◌, ℕ, zero, suc, ◌<◌, ◌≤◌, ◌+◌, ◌^◌, false, List, [], ◌∷◌, ◌++◌, length, refl, sym, ap, subst, ◌∙◌, Option, Some, None, arith}
+use Rattle.std.specs.Prelude.{Bool, slice_get, flat_map}
+use Rattle.std.specs.List.{AllByRecursion}
+use Rattle.std.proofs.lemmas.List.{append-nil}
+use Rattle.smlc_base.specs.declared.place.Place.{Place}
+use Rattle.sml_tree.specs.declared.bare.Bare.{Bare}
+use Rattle.sml_tree.specs.declared.bare.Node.{Node}
+use Rattle.sml_tree.specs.declared.bare.Node.TheVariants as node
+use Rattle.sml_tree.specs.declared.bare.TypeExp.{TypeExp}
+use Rattle.sml_tree.specs.declared.bare.TypeExp.TheVariants as type
+use Rattle.sml_tree.specs.declared.tree.Tree.{Tree}
+use Rattle.sml_tree.specs.BareParts.{IsNumbered, at_node, node_parts}
+use Rattle.sml_tree.specs.IsBare as spec
+use Rattle.sml_tree.specs.IsBare.{IsPreorder, HasSorts, IsDistinct, names_at, TypeStands, is_function, function_of}
+use Rattle.sml_tree.specs.Width.{width}
+use Rattle.sml_tree.proofs.Unfold.{by_parts}
+use Rattle.sml_expansion.specs.Forests.{Forest, none, tree, grown, numbered, places}
+use Rattle.sml_expansion.specs.Makings.{nothing_made}
+use Rattle.sml_expansion.specs.Programs.{tops, program, last_place, no_place}
+use Rattle.sml_expansion.specs.Terms.{Term, trees}
+use Rattle.sml_expansion.specs.Whole.{bare_of, broken, width_limit}
+use Rattle.expansion_laws.proofs.Forms as f
+use Rattle.expansion_laws.proofs.Forms.{Is, From}
+use Rattle.expansion_laws.proofs.Growing.{TypeIn, TypesFrom}
+use Rattle.expansion_laws.proofs.Kinded.{Kinded, Dec}
+use Rattle.expansion_laws.proofs.Positions.{At, at_whole, how_many, how_many_places, all_numbered, Fit, is_numbered, is_preorder}
+use Rattle.expansion_laws.proofs.Sorts.{fit_of, sort_of_part}
+use Rattle.expansion_laws.proofs.Spans.{spans_of, distinct, all_tree}
+use Rattle.expansion_laws.proofs.ProgramsDone.{ProgramIs, program_done, types_done, start, start_scope, sizes_of}
+
+-- the trees of a parse tree stand where the grammar has them
+abbrev pub IsShaped : Tree → Type 0
+IsShaped t = AllByRecursion (Kinded (length t.texts) Dec) (trees t.nodes t.places)
+
+function_parts : (g h : ℕ → Bool) (i : ℕ) (n : Node) → AllByRecursion (λ c. g c ≡ h c) (node_parts n) → function_of g i n ≡ function_of h i n
+function_parts g h i (node.Typed e ty) a = a.0
+function_parts g h i _ a = refl
+
+-- the forest of a program
+abbrev pub forest_of : Tree → Forest
+forest_of t = let r = tops (start_scope t.names) (trees t.nodes t.places) nothing_made in program (last_place no_place r.0) r.0
+
+pub forest_is : (t : Tree) → IsShaped t → broken t ≡ None → ProgramIs (sizes_of (length t.texts) (tops (start_scope t.names) (trees t.nodes t.places) nothing_made).1) start nothing_made (tops (start_scope t.names) (trees t.nodes t.places) nothing_made).1 (forest_of t)
+forest_is t h e = program_done t.names (length t.texts) (trees t.nodes t.places) h e (last_place no_place (tops (start_scope t.names) (trees t.nodes t.places) nothing_made).0)
+
+module _ (t : Tree) (shaped : IsShaped t) (kept : broken t ≡ None) where
+  fits : let p = forest_is t shaped kept in Fit (grown p.node p.place p.parts)
+  fits = let p = forest_is t shaped kept in let d = fit_of (f.program p.node) p.parts p.is in (d.0, d.1, tt)
+
+  pub numbered_all : IsNumbered (bare_of t).nodes
+  numbered_all = let p = forest_is t shaped kept in subst (λ x. IsNumbered (numbered 0 x)) (sym p.same) (is_numbered (grown p.node p.place p.parts) fits)
+
+  pub preorder_all : IsPreorder (bare_of t).nodes
+  preorder_all = let p = forest_is t shaped kept in subst (λ x. IsPreorder (numbered 0 x)) (sym p.same) (is_preorder p.node p.place p.parts fits)
+
+  pub places_stand : length (bare_of t).places ≡ length (bare_of t).nodes
+  places_stand = how_many_places (forest_of t) ∙ sym (how_many 0 (forest_of t))
+
+  function_by_parts : (i : ℕ) (n : Node) → slice_get (bare_of t).nodes i ≡ Some n → is_function (bare_of t).nodes i ≡ function_of (is_function (bare_of t).nodes) i n
+  function_by_parts i n e = by_parts false function_of (λ x y. x ≡ y) refl function_parts (bare_of t).nodes numbered_all i ∙ ap (at_node false function_of (is_function (bare_of t).nodes) i) e
+
+  pub once_all : IsDistinct (flat_map names_at (bare_of t).nodes)
+  once_all =
+      let p = forest_is t shaped kept in
+      let d = spans_of (f.program p.node) p.parts p.is in
+      subst (λ x. IsDistinct (flat_map names_at (numbered 0 x))) (sym p.same) (distinct 0 _ (subst (From 0) (sym (all_tree names_at 0 p.node p.place p.parts none)) (subst (From 0) (sym (append-nil _)) (d _ 1).names.from)))
+
+  pub sorts_all : AllByRecursion (HasSorts (bare_of t).nodes) (bare_of t).nodes
+  sorts_all =
+      let p = forest_is t shaped kept in
+      let nodes = (bare_of t).nodes in
+      let whole : At nodes 0 (grown p.node p.place p.parts) = subst (λ x. At (numbered 0 x) 0 (grown p.node p.place p.parts)) (sym p.same) (at_whole (grown p.node p.place p.parts)) in
+      let d = (sort_of_part nodes function_by_parts (f.program p.node) p.parts p.is).1 1 whole.1 in
+      let each : AllByRecursion (HasSorts nodes) (numbered 0 (grown p.node p.place p.parts)) = all_numbered (HasSorts nodes) 0 (grown p.node p.place p.parts) (d.0, d.1, tt) in
+      subst (λ x. AllByRecursion (HasSorts nodes) (numbered 0 x)) (sym p.same) each
+
+  types_at : (n i : ℕ) (ts : List TypeExp) → TypesFrom (length (bare_of t).tyvars) i ts → (j : ℕ) (u : TypeExp) → slice_get ts j ≡ Some u → TypeIn (length (bare_of t).tyvars) (i + j) u
+  types_at n i [] h j u e = cc
+  types_at n i (x ∷ ts) h zero u e =
+      let same : x ≡ u = cc in let z : i + 0 ≡ i = omega arith in
+      subst (λ k. TypeIn (length (bare_of t).tyvars) k u) (sym z) (subst (TypeIn (length (bare_of t).tyvars) i) same h.0)
+  types_at n i (x ∷ ts) h (suc j) u e =
+      let z : i + suc j ≡ suc i + j = omega arith in
+      subst (λ k. TypeIn (length (bare_of t).tyvars) k u) (sym z) (types_at n (suc i) ts h.1 j u e)
+
+  stands_type : (i : ℕ) (u : TypeExp) → TypeIn (length (bare_of t).tyvars) i u → TypeStands (bare_of t) i u
+  stands_type i (type.Var v) h = h
+  stands_type i (type.Record fields) h = h
+  stands_type i (type.Arrow a b) h = h
+  stands_type i (type.Named n args) h = h
+  stands_type i (type.Abbreviation n args) h = h
+  stands_type i (type.UnitOf args) h = h
+
+  pub types_all : (i : ℕ) (u : TypeExp) → slice_get (bare_of t).types i ≡ Some u → TypeStands (bare_of t) i u
+  types_all i u e =
+      let z : 0 + i ≡ i = omega arith in
+      stands_type i u (subst (λ k. TypeIn (length (bare_of t).tyvars) k u) z (types_at 0 0 (bare_of t).types (types_done t.names (length t.texts) (trees t.nodes t.places) shaped) i u e))
