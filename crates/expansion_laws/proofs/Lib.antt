@@ -15,3 +15,4 @@ pub mod Sorts
 pub mod Spans
 pub mod ProgramsDone
 pub mod Clauses
+pub mod Nests
