@@ -16,3 +16,4 @@ pub mod Spans
 pub mod ProgramsDone
 pub mod Clauses
 pub mod Nests
+pub mod Bound
