@@ -17,3 +17,4 @@ pub mod ProgramsDone
 pub mod Clauses
 pub mod Nests
 pub mod Bound
+pub mod Rows
