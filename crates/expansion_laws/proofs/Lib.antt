@@ -18,3 +18,4 @@ pub mod Clauses
 pub mod Nests
 pub mod Bound
 pub mod Rows
+pub mod Stands
