@@ -231,6 +231,9 @@ one_con c k i (x ∷ cs) (inr a) =
     let z : suc i + o.at ≡ i + suc o.at = omega arith in let l = o.less in
     record { at = suc o.at; takes = o.takes; same = o.same ∙ ap (λ w. con.Data k w o.takes) z; there = o.there; less = omega (arith, l) }
 
+abbrev pub sizes_in : Bare → Sizes
+sizes_in p = record { types = length p.types; tyvars = length p.tyvars; texts = length p.texts }
+
 module _ (p : Bare) (declared : From 10 (flat_map datas_at p.nodes)) where
   ordered : From 10 (map (λ d. d.type_name) (flat_map dats p.nodes))
   ordered = subst (From 10) (names_all p.nodes) declared
@@ -281,4 +284,141 @@ module _ (p : Bare) (declared : From 10 (flat_map datas_at p.nodes)) where
       go : (x : ℕ) → Among x xs ⊎ Among x g.vars → x < length p.names
       go x (inl a) = b x a
       go x (inr a) = o.vars x a
+  cons_after : {m n : Made} (g h : Context) (a : Node) (t : Forest) → Is (sizes_in p) g m n (f.declaration a h) t → Good g → (i : ℕ) → slice_get p.nodes i ≡ Some (with_parts a (roots (suc i) t)) → (c : Con) → Among c h.cons → ConStands p c
+  cons_after g h a t (f.before q d) o i e c m = cons_after g h a t d o i e c m
+  cons_after g h a t (f.after d q) o i e c m = cons_after g h a t d o i e c m
+  cons_after g h a t (f.is_val vs w d) o i e c m = o.cons c m
+  cons_after g h a t (f.is_val_rec vs xs w u d) o i e c m = o.cons c m
+  cons_after g h a t (f.is_type bs w) o i e c m = o.cons c m
+  cons_after g h a t (f.is_datatype {m = k} bs w u v) o i e c m = go (among_split c (data_cons bs) g.cons m)
+    where
+      go : Among c (data_cons bs) ⊎ Among c g.cons → ConStands p c
+      go (inl m) = data_stands (length p.types) k.type_names 0 bs (λ d b. node_dats p.nodes i (node.Datatype bs) d e b) w c m
+      go (inr m) = o.cons c m
+  cons_after g h a t (f.is_exception x arg u w) o i e c m = o.cons c m
+  cons_after g h a t (f.same_exception x w u v) o i e c m = o.cons c m
+  cons_after g h a t (f.not_exception x u) o i e c m = o.cons c m
 
+  good_after : {m n : Made} (g h : Context) (a : Node) (t : Forest) → Is (sizes_in p) g m n (f.declaration a h) t → Good g → length n.names ≤ length p.names → (i : ℕ) → slice_get p.nodes i ≡ Some (with_parts a (roots (suc i) t)) → Good h
+  good_after {m} {n} g h a t d o le i e = record { vars = λ x b. go x (below_of g (f.declaration a h) t d x b); cons = cons_after g h a t d o i e }
+    where
+      go : (x : ℕ) → (x < length n.names) ⊎ Among x g.vars → x < length p.names
+      go x (inl l) = omega (arith, l, le)
+      go x (inr b) = o.vars x b
+
+  abbrev S : ℕ → Forest → Type 0
+  S = EachTree (λ j n. Stands p n)
+
+  abbrev NodeStands : Node → Forest → Type 0
+  NodeStands a t = (j : ℕ) → At p.nodes j t → Stands p (with_parts a (roots j t)) × S j t
+
+  abbrev Inner : Part → Forest → Type 0
+  Inner (f.expression a) t = NodeStands a t
+  Inner (f.function a) t = NodeStands a t
+  Inner (f.program a) t = NodeStands a t
+  Inner (f.pattern a xs) t = NodeStands a t
+  Inner (f.declaration a h) t = NodeStands a t
+  Inner _ t = (i : ℕ) → At p.nodes i t → S i t
+
+  arg_stands : (o : Option ℕ) → ArgIn (length p.types) o → OptionStands p o
+  arg_stands None h = tt
+  arg_stands (Some t) h = h
+
+  args_stand : (k : ℕ) (bs : List DatBinding) → DatasIn (length p.types) k bs → AllByRecursion (λ d. AllByRecursion (λ c. OptionStands p c.arg) d.cons) bs
+  args_stand k [] h = tt
+  args_stand k (d ∷ bs) h = (all_map (λ c a. arg_stands c.arg a) d.cons h.2, args_stand (suc k) bs h.3)
+
+  rec_stand : (rs xs : List ℕ) → Below (length p.names) xs → AllByRecursion (λ b. b.name.0 < length p.names) (rec_bindings_at rs (rec_of xs))
+  rec_stand [] [] h = tt
+  rec_stand (r ∷ rs) [] h = tt
+  rec_stand [] (x ∷ xs) h = (h x (inl refl), rec_stand [] xs (λ y a. h y (inr a)))
+  rec_stand (r ∷ rs) (x ∷ xs) h = (h x (inl refl), rec_stand rs xs (λ y a. h y (inr a)))
+
+  one_stands : {m n : Made} (x : ℕ) → Names m (x ∷ []) n → length n.names ≤ length p.names → x < length p.names
+  one_stands {m} {n} x e le = let b = names_below e x (inl refl) in omega (arith, b, le)
+
+  le_through : (k n : ℕ) → k ≤ n → n ≤ length p.names → k ≤ length p.names
+  le_through k n a b = omega (arith, a, b)
+
+  pub stands_of : {m n : Made} (g : Context) (r : Part) (t : Forest) → Is (sizes_in p) g m n r t → Good g → length n.names ≤ length p.names → Inner r t
+  stands_of g r t (f.before q h) o le = stands_of g r t h o le
+  stands_of g r t (f.after h q) o le = stands_of g r t h o (let e = q.names in omega (arith, e, le))
+  stands_of g r t f.no_expression o le = λ i at. tt
+  stands_of g r t f.no_function o le = λ i at. tt
+  stands_of g r t f.no_pattern o le = λ i at. tt
+  stands_of g r t f.no_rule o le = λ i at. tt
+  stands_of g r t f.no_binding o le = λ i at. tt
+  stands_of g r t f.no_declaration o le = λ i at. tt
+  stands_of g r t (f.more_expressions {k = k} {n = n} {a = a} {parts = parts} {rest = rest} {j = j} h i) o le = λ w at. let x = stands_of g (f.expression a) parts h o (le_through (length k.names) (length n.names) (is_grows (f.expressions j) rest i) le) (suc w) at.1 in (x.0, x.1, stands_of g (f.expressions j) rest i o le (suc (w + size parts)) at.2)
+  stands_of g r t (f.more_functions {k = k} {n = n} {a = a} {parts = parts} {rest = rest} {j = j} h i) o le = λ w at. let x = stands_of g (f.function a) parts h o (le_through (length k.names) (length n.names) (is_grows (f.functions j) rest i) le) (suc w) at.1 in (x.0, x.1, stands_of g (f.functions j) rest i o le (suc (w + size parts)) at.2)
+  stands_of g r t (f.more_patterns {k = k} {n = n} {a = a} {parts = parts} {rest = rest} {j = j} {xs = xs} {ys = ys} h i) o le = λ w at. let x = stands_of g (f.pattern a xs) parts h o (le_through (length k.names) (length n.names) (is_grows (f.patterns j ys) rest i) le) (suc w) at.1 in (x.0, x.1, stands_of g (f.patterns j ys) rest i o le (suc (w + size parts)) at.2)
+  stands_of g r t (f.more_rules {k = k} {l = l} {n = n} {a = a} {b = b} {parts = parts} {inner = inner} {rest = rest} {xs = xs} h i u) o le = λ w at.
+      let w2 = suc (w + size parts) in
+      let l1 = le_through (length l.names) (length n.names) (is_grows f.rules rest u) le in
+      let l2 = le_through (length k.names) (length l.names) (is_grows (f.expression b) inner i) l1 in
+      let x = stands_of g (f.pattern a xs) parts h o l2 (suc w) at.1 in
+      let y = stands_of (with_vars xs g) (f.expression b) inner i (good_vars g xs o (below_more (length k.names) (length p.names) xs l2 (below_of g (f.pattern a xs) parts h))) l1 (suc w2) at.2.1 in
+      (x.0, x.1, (y.0, y.1, stands_of g f.rules rest u o le (suc (w2 + size inner)) at.2.2))
+  stands_of g r t (f.more_bindings {k = k} {l = l} {n = n} {a = a} {b = b} {parts = parts} {inner = inner} {rest = rest} {j = j} {xs = xs} {ys = ys} h i u) o le = λ w at.
+      let w2 = suc (w + size parts) in
+      let l1 = le_through (length l.names) (length n.names) (is_grows (f.bindings j ys) rest u) le in
+      let l2 = le_through (length k.names) (length l.names) (is_grows (f.expression b) inner i) l1 in
+      let x = stands_of g (f.pattern a xs) parts h o l2 (suc w) at.1 in
+      let y = stands_of g (f.expression b) inner i o l1 (suc w2) at.2.1 in
+      (x.0, x.1, (y.0, y.1, stands_of g (f.bindings j ys) rest u o le (suc (w2 + size inner)) at.2.2))
+  stands_of g r t (f.more_declarations {h = d} {i = e} {k = k} {n = n} {a = a} {parts = parts} {rest = rest} h i) o le = λ w at.
+      let l = le_through (length k.names) (length n.names) (is_grows (f.declarations e) rest i) le in
+      let x = stands_of g (f.declaration a d) parts h o l (suc w) at.1 in
+      (x.0, x.1, stands_of d (f.declarations e) rest i (good_after g d a parts h o l w at.0) le (suc (w + size parts)) at.2)
+  stands_of g r t (f.is_int i w) o le = λ j at. (w, tt)
+  stands_of g r t (f.is_char x w) o le = λ j at. (w, tt)
+  stands_of g r t (f.is_text x w) o le = λ j at. (w, tt)
+  stands_of g r t (f.is_variable x w) o le = λ j at. (o.vars x w, tt)
+  stands_of g r t (f.is_constructor x w) o le = λ j at. (con_stands g o x w, tt)
+  stands_of g r t (f.is_builtin b) o le = λ j at. (tt, tt)
+  stands_of g r t (f.is_record labs w h) o le = λ j at. (row_is (roots j t) labs w, stands_of g (f.expressions (length labs)) t h o le j at)
+  stands_of g r t (f.is_app h) o le = λ j at. (tt, stands_of g (f.expressions 2) t h o le j at)
+  stands_of g r t (f.is_case {k = k} {n = n} {a = a} {parts = parts} {rest = rest} h i) o le = λ j at.
+      let x = stands_of g (f.expression a) parts h o (le_through (length k.names) (length n.names) (is_grows f.rules rest i) le) (suc j) at.1 in
+      (tt, (x.0, x.1, stands_of g f.rules rest i o le (suc (j + size parts)) at.2))
+  stands_of g r t (f.is_fn h) o le = λ j at. (tt, stands_of g f.rules t h o le j at)
+  stands_of g r t (f.is_raise h) o le = λ j at. (tt, stands_of g (f.expressions 1) t h o le j at)
+  stands_of g r t (f.is_handle {k = k} {n = n} {a = a} {parts = parts} {rest = rest} h i) o le = λ j at.
+      let x = stands_of g (f.expression a) parts h o (le_through (length k.names) (length n.names) (is_grows f.rules rest i) le) (suc j) at.1 in
+      (tt, (x.0, x.1, stands_of g f.rules rest i o le (suc (j + size parts)) at.2))
+  stands_of g r t (f.is_typed y w h) o le = λ j at. (w, stands_of g (f.expressions 1) t h o le j at)
+  stands_of g r t (f.is_let {h = d} {k = k} {n = n} {a = a} {b = b} {parts = parts} {inner = inner} h i) o le = λ j at.
+      let w2 = suc (j + size parts) in
+      let l = le_through (length k.names) (length n.names) (is_grows (f.expression b) inner i) le in
+      let x = stands_of g (f.declaration a d) parts h o l (suc j) at.1 in
+      let y = stands_of d (f.expression b) inner i (good_after g d a parts h o l j at.0) le (suc w2) at.2.1 in
+      (tt, (x.0, x.1, (y.0, y.1, tt)))
+  stands_of g r t (f.fn_function h) o le = λ j at. (tt, stands_of g f.rules t h o le j at)
+  stands_of g r t (f.typed_function y w h) o le = λ j at. (w, stands_of g (f.functions 1) t h o le j at)
+  stands_of g r t f.is_wild o le = λ j at. (tt, tt)
+  stands_of g r t (f.int_pattern i w) o le = λ j at. (w, tt)
+  stands_of g r t (f.char_pattern x w) o le = λ j at. (w, tt)
+  stands_of g r t (f.text_pattern x w) o le = λ j at. (w, tt)
+  stands_of g r t (f.variable_pattern x e) o le = λ j at. (one_stands x e le, tt)
+  stands_of g r t (f.con_pattern x w) o le = λ j at. (con_stands g o x w, tt)
+  stands_of g r t (f.apply_pattern {xs = xs} x w h) o le = λ j at. (con_stands g o x w, stands_of g (f.patterns 1 xs) t h o le j at)
+  stands_of g r t (f.record_pattern {xs = xs} labs w h) o le = λ j at. (row_is (roots j t) labs w, stands_of g (f.patterns (length labs) xs) t h o le j at)
+  stands_of g r t (f.typed_pattern {xs = xs} y w h) o le = λ j at. (w, stands_of g (f.patterns 1 xs) t h o le j at)
+  stands_of g r t (f.as_pattern {k = k} {n = n} {xs = xs} x e h) o le = λ j at. (one_stands x e (le_through (length k.names) (length n.names) (is_grows (f.patterns 1 xs) t h) le), stands_of g (f.patterns 1 xs) t h o le j at)
+  stands_of g r t (f.con_as_pattern {k = k} {n = n} {xs = xs} x e h) o le = λ j at. (one_stands x e (le_through (length k.names) (length n.names) (is_grows (f.patterns 1 xs) t h) le), stands_of g (f.patterns 1 xs) t h o le j at)
+  stands_of g r t (f.is_val {j = i} {xs = xs} vs w h) o le = λ j at. (w, stands_of g (f.bindings i xs) t h o le j at)
+  stands_of g r t (f.is_val_rec {k = k} {n = n} vs xs w e h) o le = λ j at.
+      let b = below_more (length k.names) (length p.names) xs (le_through (length k.names) (length n.names) (is_grows (f.functions (length xs)) t h) le) (names_below e) in
+      ((w, rec_stand (roots j t) xs b), stands_of (with_vars xs g) (f.functions (length xs)) t h (good_vars g xs o b) le j at)
+  stands_of g r t (f.is_type bs w) o le = λ j at. (w, tt)
+  stands_of g r t (f.is_datatype {m = k} bs w e i) o le = λ j at. (args_stand k.type_names bs w, tt)
+  stands_of g r t (f.is_exception x arg e w) o le = λ j at. ((one_stands x e le, arg_stands arg w), tt)
+  stands_of g r t (f.same_exception x y e w) o le = λ j at. ((one_stands x e le, con_stands g o y w), tt)
+  stands_of g r t (f.not_exception x e) o le = λ j at. (one_stands x e le, tt)
+  stands_of g r t f.program_end o le = λ j at. (tt, tt)
+  stands_of g r t (f.program_let {h = d} {k = k} {n = n} {a = a} {b = b} {parts = parts} {inner = inner} h i) o le = λ j at.
+      let w2 = suc (j + size parts) in
+      let l = le_through (length k.names) (length n.names) (is_grows (f.program b) inner i) le in
+      let x = stands_of g (f.declaration a d) parts h o l (suc j) at.1 in
+      let y = stands_of d (f.program b) inner i (good_after g d a parts h o l j at.0) le (suc w2) at.2.1 in
+      (tt, (x.0, x.1, (y.0, y.1, tt)))
