@@ -1,6 +1,6 @@
 -- What the bare tree of a program keeps, clause by clause.
-use Rattle.std.proofs.Common.{◌≡◌, ℕ, zero, suc, ◌<◌, ◌≤◌, ◌+◌, ◌^◌, false, List, [], ◌∷◌, ◌++◌, length, refl, sym, ap, subst, ◌∙◌, Option, Some, None, arith}
-use Rattle.std.specs.Prelude.{Bool, slice_get, flat_map}
+use Rattle.std.proofs.Common.{◌≡◌, ℕ, zero, suc, ◌<◌, ◌≤◌, ◌+◌, ◌^◌, true, false, eq-eqb, List, [], ◌∷◌, ◌++◌, length, refl, sym, ap, subst, ◌∙◌, Option, Some, None, arith}
+use Rattle.std.specs.Prelude.{Bool, slice_get, flat_map, count_by, ◌||◌}
 use Rattle.std.specs.List.{AllByRecursion}
 use Rattle.std.proofs.lemmas.List.{append-nil}
 use Rattle.smlc_base.specs.declared.place.Place.{Place}
@@ -10,12 +10,15 @@ use Rattle.sml_tree.specs.declared.bare.Node.TheVariants as node
 use Rattle.sml_tree.specs.declared.bare.TypeExp.{TypeExp}
 use Rattle.sml_tree.specs.declared.bare.TypeExp.TheVariants as type
 use Rattle.sml_tree.specs.declared.tree.Tree.{Tree}
-use Rattle.sml_tree.specs.BareParts.{IsNumbered, at_node, node_parts}
+use Rattle.sml_tree.specs.BareParts.{IsNumbered, at_node, node_parts, from_parts}
 use Rattle.sml_tree.specs.IsBare as spec
-use Rattle.sml_tree.specs.IsBare.{IsPreorder, HasSorts, IsDistinct, names_at, TypeStands, is_function, function_of}
+use Rattle.sml_tree.specs.IsBare.{IsPreorder, HasSorts, IsDistinct, names_at, TypeStands, is_function, function_of, Stands, nest_of, is_finish}
 use Rattle.sml_tree.specs.Width.{width}
+use Rattle.sml_tree.specs.Free.{free}
+use Rattle.sml_tree.specs.Sets.{has}
+use Rattle.sml_tree.proofs.FreeParts.{free_unfold}
 use Rattle.sml_tree.proofs.Unfold.{by_parts}
-use Rattle.sml_expansion.specs.Forests.{Forest, none, tree, grown, numbered, places}
+use Rattle.sml_expansion.specs.Forests.{Forest, none, tree, grown, numbered, places, roots, with_parts}
 use Rattle.sml_expansion.specs.Makings.{nothing_made}
 use Rattle.sml_expansion.specs.Programs.{tops, program, last_place, no_place}
 use Rattle.sml_expansion.specs.Terms.{Term, trees}
@@ -26,7 +29,10 @@ use Rattle.expansion_laws.proofs.Growing.{TypeIn, TypesFrom}
 use Rattle.expansion_laws.proofs.Kinded.{Kinded, Dec}
 use Rattle.expansion_laws.proofs.Positions.{At, at_whole, how_many, how_many_places, all_numbered, Fit, is_numbered, is_preorder}
 use Rattle.expansion_laws.proofs.Sorts.{fit_of, sort_of_part}
-use Rattle.expansion_laws.proofs.Spans.{spans_of, distinct, all_tree}
+use Rattle.expansion_laws.proofs.Spans.{spans_of, distinct, all_tree, datas_at}
+use Rattle.expansion_laws.proofs.Bound.{bound_of}
+use Rattle.expansion_laws.proofs.Stands.{stands_of, base_stands}
+use Rattle.expansion_laws.proofs.Nests.{nest_is, ends_once}
 use Rattle.expansion_laws.proofs.ProgramsDone.{ProgramIs, program_done, types_done, start, start_scope, sizes_of}
 
 -- the trees of a parse tree stand where the grammar has them
@@ -43,6 +49,10 @@ forest_of t = let r = tops (start_scope t.names) (trees t.nodes t.places) nothin
 
 pub forest_is : (t : Tree) → IsShaped t → broken t ≡ None → ProgramIs (sizes_of (length t.texts) (tops (start_scope t.names) (trees t.nodes t.places) nothing_made).1) start nothing_made (tops (start_scope t.names) (trees t.nodes t.places) nothing_made).1 (forest_of t)
 forest_is t h e = program_done t.names (length t.texts) (trees t.nodes t.places) h e (last_place no_place (tops (start_scope t.names) (trees t.nodes t.places) nothing_made).0)
+
+no_member : (xs : List ℕ) → ((x : ℕ) → has xs x ≡ true → ⊥) → xs ≡ []
+no_member [] h = refl
+no_member (x ∷ xs) h = absurd (h x (ap (λ w. w || has xs x) (eq-eqb x x refl)))
 
 module _ (t : Tree) (shaped : IsShaped t) (kept : broken t ≡ None) where
   fits : let p = forest_is t shaped kept in Fit (grown p.node p.place p.parts)
@@ -96,3 +106,35 @@ module _ (t : Tree) (shaped : IsShaped t) (kept : broken t ≡ None) where
   types_all i u e =
       let z : 0 + i ≡ i = omega arith in
       stands_type i u (subst (λ k. TypeIn (length (bare_of t).tyvars) k u) z (types_at 0 0 (bare_of t).types (types_done t.names (length t.texts) (trees t.nodes t.places) shaped) i u e))
+
+  whole_at : let p = forest_is t shaped kept in At (bare_of t).nodes 0 (grown p.node p.place p.parts)
+  whole_at = let p = forest_is t shaped kept in subst (λ x. At (numbered 0 x) 0 (grown p.node p.place p.parts)) (sym p.same) (at_whole (grown p.node p.place p.parts))
+
+  pub bound_all : free (bare_of t).nodes 0 ≡ []
+  bound_all =
+      let p = forest_is t shaped kept in
+      let nodes = (bare_of t).nodes in
+      let at = whole_at in
+      let d = bound_of nodes numbered_all start (f.program p.node) p.parts p.is 1 at.1 in
+      no_member (free nodes 0) (λ x h. d x (sym (ap (λ s. has s x) (free_unfold nodes numbered_all 0 (with_parts p.node (roots 1 p.parts)) at.0)) ∙ h))
+
+  declared_all : From 10 (flat_map datas_at (bare_of t).nodes)
+  declared_all =
+      let p = forest_is t shaped kept in
+      let d = spans_of (f.program p.node) p.parts p.is in
+      subst (λ x. From 10 (flat_map datas_at (numbered 0 x))) (sym p.same)
+      (subst (From 10) (sym (all_tree datas_at 0 p.node p.place p.parts none)) (subst (From 10) (sym (append-nil _)) (d _ 1).datas.from))
+
+  pub stands_all : AllByRecursion (Stands (bare_of t)) (bare_of t).nodes
+  stands_all =
+      let p = forest_is t shaped kept in
+      let at = whole_at in
+      let d = stands_of (bare_of t) declared_all start (f.program p.node) p.parts p.is (record { vars = λ x a. absurd a; cons = base_stands (bare_of t) declared_all }) (omega arith) 1 at.1 in
+      let each : AllByRecursion (Stands (bare_of t)) (numbered 0 (grown p.node p.place p.parts)) = all_numbered (Stands (bare_of t)) 0 (grown p.node p.place p.parts) (d.0, d.1, tt) in
+      subst (λ x. AllByRecursion (Stands (bare_of t)) (numbered 0 x)) (sym p.same) each
+
+  pub nest_all : from_parts false nest_of (bare_of t).nodes 0 ≡ true
+  nest_all = let r = tops (start_scope t.names) (trees t.nodes t.places) nothing_made in nest_is (bare_of t).nodes numbered_all (last_place no_place r.0) r.0 0 (at_whole (forest_of t))
+
+  pub end_all : count_by is_finish (bare_of t).nodes ≡ 1
+  end_all = let p = forest_is t shaped kept in ap (λ x. count_by is_finish (numbered 0 x)) p.same ∙ ends_once p.node p.place p.parts p.is

@@ -14,8 +14,8 @@ pub mod Positions
 pub mod Sorts
 pub mod Spans
 pub mod ProgramsDone
-pub mod Clauses
 pub mod Nests
 pub mod Bound
 pub mod Rows
 pub mod Stands
+pub mod Clauses

@@ -255,7 +255,7 @@ module _ (p : Bare) (declared : From 10 (flat_map datas_at p.nodes)) where
       go (inl a) r = binding_cons d (f d (inl refl)) h.1 c a
       go (inr a) r = r a
 
-  base_stands : (c : Con) → Among c base_cons → ConStands p c
+  pub base_stands : (c : Con) → Among c base_cons → ConStands p c
   base_stands c (inl e) = subst (ConStands p) (sym e) (refl, omega arith)
   base_stands c (inr (inl e)) = subst (ConStands p) (sym e) (refl, omega arith)
   base_stands c (inr (inr (inl e))) = subst (ConStands p) (sym e) (refl, omega arith)
