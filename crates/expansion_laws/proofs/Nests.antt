@@ -1,5 +1,5 @@
 -- A program ends once, and its declarations stand in one nest.
-use Rattle.std.proofs.Common.{◌≡◌, ℕ, zero, suc, ◌<◌, ◌≤◌, ◌+◌, ◌&&◌, ◌||◌, true, false, List, [], ◌∷◌, ◌++◌, map, length, get_or, refl, sym, ap, subst, ◌∙◌, Option, Some, None, arith, if◌then◌else◌}
+use Rattle.std.proofs.Common.{◌≡◌, ℕ, zero, suc, ◌<◌, ◌≤◌, ◌+◌, ◌&&◌, ◌||◌, true, false, List, [], ◌∷◌, ◌++◌, map, length, get_or, refl, sym, ap, subst, ◌∙◌, Option, Some, None, arith, if◌then◌else◌, eq-eqb, inl, inr}
 use Rattle.std.specs.Prelude.{slice_get, Bool, flat_map, filter, fold, cond, count_by, nat_eq}
 use Rattle.std.specs.List.{AllByRecursion}
 use Rattle.std.proofs.lemmas.List.{length-append, append-nil}
@@ -16,7 +16,7 @@ use Rattle.sml_expansion.specs.Forests.{Forest, none, tree, grown, size, count, 
 use Rattle.sml_expansion.specs.Bare.{nest}
 use Rattle.sml_expansion.specs.Programs as p
 use Rattle.sml_expansion.specs.Programs.{Top, program, nested, outermost, shown_in, all_shown}
-use Rattle.expansion_laws.proofs.Contexts.{Context}
+use Rattle.expansion_laws.proofs.Contexts.{Context, Among, among_left, among_right}
 use Rattle.expansion_laws.proofs.Forms as f
 use Rattle.expansion_laws.proofs.Forms.{Sizes, Is, Part}
 use Rattle.expansion_laws.proofs.Positions.{At}
@@ -182,3 +182,152 @@ module _ (nodes : List Node) (num : IsNumbered nodes) where
   lets_are q [] i at = by_parts [] lets_of (λ x y. x ≡ y) refl lets_parts nodes num i ∙ ap (at_node [] lets_of (from_parts [] lets_of nodes) i) at.0
   lets_are q (t ∷ tops) i at = lets_at t.place t.forest (program q tops) i (all_lets (i + nested t.forest) tops) (rooted_program q tops) at
       (λ j e a. lets_are q tops j a ∙ ap (λ k. all_lets k tops) e)
+
+-- ---- Top-level declarations
+
+has_among : (x : ℕ) (xs : List ℕ) → Among x xs → has xs x ≡ true
+has_among x [] a = absurd a
+has_among x (y ∷ xs) (inl e) = ap (λ w. w || has xs x) (eq-eqb x y e)
+has_among x (y ∷ xs) (inr a) = right (nat_eq x y) (has xs x) (has_among x xs a)
+  where
+    right : (a b : Bool) → b ≡ true → (a || b) ≡ true
+    right true b h = refl
+    right false b h = h
+
+all_has : (ls xs : List ℕ) → AllByRecursion (λ k. Among k ls) xs → AllByRecursion (λ k. has ls k ≡ true) xs
+all_has ls [] h = tt
+all_has ls (x ∷ xs) h = (has_among x ls h.0, all_has ls xs h.1)
+
+all_right : (front ls xs : List ℕ) → AllByRecursion (λ k. Among k ls) xs → AllByRecursion (λ k. Among k (front ++ ls)) xs
+all_right front ls [] h = tt
+all_right front ls (x ∷ xs) h = (among_right x front ls h.0, all_right front ls xs h.1)
+
+decs_in : (i : ℕ) (tops : List Top) → AllByRecursion (λ k. Among k (all_lets i tops)) (p.lets i tops)
+decs_in i [] = tt
+decs_in i (t ∷ tops) = go t.forest (decs_in (i + nested t.forest) tops)
+  where
+    go : (f : Forest) → AllByRecursion (λ k. Among k (all_lets (i + nested f) tops)) (p.lets (i + nested f) tops) → AllByRecursion (λ k. Among k (let_numbers i f ++ all_lets (i + nested f) tops)) (outermost i f ++ p.lets (i + nested f) tops)
+    go none h = h
+    go (tree n q parts rest) h = (inl refl, all_right (i ∷ let_numbers (suc (suc (i + size parts))) rest) (all_lets (i + nested (tree n q parts rest)) tops) (p.lets (i + nested (tree n q parts rest)) tops) h)
+
+decs_ascend : (tops : List Top) (from i : ℕ) → from ≤ i → IsAscending from (p.lets i tops)
+decs_ascend [] from i le = tt
+decs_ascend (t ∷ tops) from i le = go t.forest (λ f j l. decs_ascend tops f j l)
+  where
+    go : (f : Forest) → ((from j : ℕ) → from ≤ j → IsAscending from (p.lets j tops)) → IsAscending from (outermost i f ++ p.lets (i + nested f) tops)
+    go none h = h from (i + 0) (omega (arith, le))
+    go (tree n q parts rest) h = (le, h (suc i) (i + nested (tree n q parts rest)) (omega arith))
+
+pub first_is : (i : ℕ) (tops : List Top) → slice_get (p.lets i tops) 0 ≡ slice_get (all_lets i tops) 0
+first_is i [] = refl
+first_is i (t ∷ tops) = go t.forest (first_is (i + nested t.forest) tops)
+  where
+    go : (f : Forest) → slice_get (p.lets (i + nested f) tops) 0 ≡ slice_get (all_lets (i + nested f) tops) 0 → slice_get (outermost i f ++ p.lets (i + nested f) tops) 0 ≡ slice_get (let_numbers i f ++ all_lets (i + nested f) tops) 0
+    go none h = h
+    go (tree n q parts rest) h = refl
+
+pub decs_are : (tops : List Top) → IsAscending 0 (p.lets 0 tops) × AllByRecursion (λ k. has (all_lets 0 tops) k ≡ true) (p.lets 0 tops)
+decs_are tops = (decs_ascend tops 0 0 (omega arith), all_has (all_lets 0 tops) (p.lets 0 tops) (decs_in 0 tops))
+
+-- ---- Those that are shown
+
+shown_then : (f : Forest) (bs : List Bool) (i from : ℕ) (rest : List ℕ) → from ≤ suc i → ((from : ℕ) → from ≤ suc (i + nested f) → IsAscending from rest) → IsAscending from (shown_in i f bs ++ rest)
+shown_then none bs i from rest le h = h from (omega (arith, le))
+shown_then (tree n q parts others) [] i from rest le h = h from (omega (arith, le))
+shown_then (tree n q parts others) (b ∷ bs) i from rest le h =
+    let j = suc (suc (i + size parts)) in
+    go (b && p.is_value n) (λ f l. shown_then others bs j f rest l (λ g k. h g (omega (arith, k))))
+  where
+    go : (c : Bool) → ((f : ℕ) → f ≤ suc (suc (suc (i + size parts))) → IsAscending f (shown_in (suc (suc (i + size parts))) others bs ++ rest)) → IsAscending from (((if c then suc i ∷ [] else []) ++ shown_in (suc (suc (i + size parts))) others bs) ++ rest)
+    go true r = (le, r (suc (suc i)) (omega arith))
+    go false r = r from (omega (arith, le))
+
+shown_ascend : (tops : List Top) (from i : ℕ) → from ≤ suc i → IsAscending from (all_shown i tops)
+shown_ascend [] from i le = tt
+shown_ascend (t ∷ tops) from i le = shown_then t.forest t.shown i from (all_shown (i + nested t.forest) tops) le (λ f l. shown_ascend tops f (i + nested t.forest) l)
+
+value_same : (n : Node) (rs : List ℕ) → p.is_value n ≡ true → spec.is_value (Some (with_parts n rs)) ≡ true
+value_same (node.Val vs bindings) rs e = refl
+value_same (node.ValRec vs bindings) rs e = refl
+value_same _ rs e = absurd cc
+
+module _ (nodes : List Node) where
+  -- the value declaration d is one of those of the nest
+  record ShownAt (ls : List ℕ) (d : ℕ) : Type 0 where
+    at : ℕ
+    among : Among at ls
+    dec : dec_at (slice_get nodes at) ≡ d ∷ []
+    value : spec.is_value (slice_get nodes d) ≡ true
+
+  shown_left : (xs ys ds : List ℕ) → AllByRecursion (ShownAt xs) ds → AllByRecursion (ShownAt (xs ++ ys)) ds
+  shown_left xs ys [] h = tt
+  shown_left xs ys (d ∷ ds) h = let o = h.0 in (record { at = o.at; among = among_left o.at xs ys o.among; dec = o.dec; value = o.value }, shown_left xs ys ds h.1)
+
+  shown_right : (xs ys ds : List ℕ) → AllByRecursion (ShownAt ys) ds → AllByRecursion (ShownAt (xs ++ ys)) ds
+  shown_right xs ys [] h = tt
+  shown_right xs ys (d ∷ ds) h = let o = h.0 in (record { at = o.at; among = among_right o.at xs ys o.among; dec = o.dec; value = o.value }, shown_right xs ys ds h.1)
+
+  both_shown : (ls ds es : List ℕ) → AllByRecursion (ShownAt ls) ds → AllByRecursion (ShownAt ls) es → AllByRecursion (ShownAt ls) (ds ++ es)
+  both_shown ls [] es a b = b
+  both_shown ls (d ∷ ds) es a b = (a.0, both_shown ls ds es a.1 b)
+
+  shown_at : (q : Place) (f e : Forest) (bs : List Bool) (i : ℕ) → At nodes i (nest q f e) → AllByRecursion (ShownAt (let_numbers i f)) (shown_in i f bs)
+  shown_at q none e bs i at = tt
+  shown_at q (tree n r parts rest) e [] i at = tt
+  shown_at q (tree n r parts rest) e (b ∷ bs) i at =
+      let j = suc (suc (i + size parts)) in
+      let z : suc (suc i + size parts) ≡ j = omega arith in
+      let others = shown_right (i ∷ []) (let_numbers j rest) (shown_in j rest bs) (shown_at q rest e bs j (subst (λ k. At nodes k (nest q rest e)) z at.1.2)) in
+      go (b && p.is_value n) refl others
+    where
+      value_of : (b : Bool) → (b && p.is_value n) ≡ true → p.is_value n ≡ true
+      value_of true h = h
+      value_of false h = absurd cc
+
+      go : (c : Bool) → (b && p.is_value n) ≡ c → AllByRecursion (ShownAt (i ∷ let_numbers (suc (suc (i + size parts))) rest)) (shown_in (suc (suc (i + size parts))) rest bs) → AllByRecursion (ShownAt (i ∷ let_numbers (suc (suc (i + size parts))) rest)) ((if c then suc i ∷ [] else []) ++ shown_in (suc (suc (i + size parts))) rest bs)
+      go true h o = (record { at = i; among = inl refl; dec = ap dec_at at.0; value = ap spec.is_value at.1.0 ∙ value_same n (roots (suc (suc i)) parts) (value_of b h) }, o)
+      go false h o = o
+
+  at_end : (q : Place) (f e : Forest) (i : ℕ) → At nodes i (nest q f e) → At nodes (i + nested f) e
+  at_end q none e i at = let z : i ≡ i + 0 = omega arith in subst (λ k. At nodes k e) z at
+  at_end q (tree n r parts rest) e i at =
+      let z : suc (suc i + size parts) + nested rest ≡ i + (suc (suc (size parts)) + nested rest) = omega arith in
+      subst (λ k. At nodes k e) z (at_end q rest e (suc (suc i + size parts)) at.1.2)
+
+  all_shown_at : (q : Place) (tops : List Top) (i : ℕ) → At nodes i (program q tops) → AllByRecursion (ShownAt (all_lets i tops)) (all_shown i tops)
+  all_shown_at q [] i at = tt
+  all_shown_at q (t ∷ tops) i at =
+      let j = i + nested t.forest in
+      both_shown (all_lets i (t ∷ tops)) (shown_in i t.forest t.shown) (all_shown j tops)
+      (shown_left (let_numbers i t.forest) (all_lets j tops) (shown_in i t.forest t.shown) (shown_at t.place t.forest (program q tops) t.shown i at))
+      (shown_right (let_numbers i t.forest) (all_lets j tops) (all_shown j tops) (all_shown_at q tops j (at_end t.place t.forest (program q tops) i at)))
+
+  flat_among : (ls : List ℕ) (at d : ℕ) → Among at ls → dec_at (slice_get nodes at) ≡ d ∷ [] → Among d (flat_map (λ i. dec_at (slice_get nodes i)) ls)
+  flat_among [] at d a e = absurd a
+  flat_among (x ∷ ls) at d (inl s) e =
+      let h : dec_at (slice_get nodes x) ≡ d ∷ [] = ap (λ w. dec_at (slice_get nodes w)) (sym s) ∙ e in
+      subst (λ l. Among d (l ++ flat_map (λ i. dec_at (slice_get nodes i)) ls)) (sym h) (inl refl)
+  flat_among (x ∷ ls) at d (inr a) e = among_right d (dec_at (slice_get nodes x)) (flat_map (λ i. dec_at (slice_get nodes i)) ls) (flat_among ls at d a e)
+
+  filter_among : (xs : List ℕ) (d : ℕ) → Among d xs → spec.is_value (slice_get nodes d) ≡ true → Among d (filter (λ d. spec.is_value (slice_get nodes d)) xs)
+  filter_among [] d a e = absurd a
+  filter_among (x ∷ xs) d a e = go (spec.is_value (slice_get nodes x)) refl a (λ m. filter_among xs d m e)
+    where
+      go : (c : Bool) → spec.is_value (slice_get nodes x) ≡ c → Among d (x ∷ xs) → (Among d xs → Among d (filter (λ d. spec.is_value (slice_get nodes d)) xs)) → Among d (cond c (x ∷ filter (λ d. spec.is_value (slice_get nodes d)) xs) (filter (λ d. spec.is_value (slice_get nodes d)) xs))
+      go true h (inl s) r = inl s
+      go true h (inr m) r = inr (r m)
+      go false h (inl s) r = absurd (no (sym e ∙ ap (λ w. spec.is_value (slice_get nodes w)) s ∙ h))
+        where
+          no : true ≡ false → ⊥
+          no e = cc
+      go false h (inr m) r = r m
+
+  all_values : (ls ds : List ℕ) → spec.lets nodes ≡ ls → AllByRecursion (ShownAt ls) ds → AllByRecursion (λ d. has (spec.values nodes) d ≡ true) ds
+  all_values ls [] e h = tt
+  all_values ls (d ∷ ds) e h =
+      let o = h.0 in
+      let m = filter_among (flat_map (λ i. dec_at (slice_get nodes i)) ls) d (flat_among ls o.at d o.among o.dec) o.value in
+      (subst (λ l. has (filter (λ d. spec.is_value (slice_get nodes d)) (flat_map (λ i. dec_at (slice_get nodes i)) l)) d ≡ true) (sym e) (has_among d (filter (λ d. spec.is_value (slice_get nodes d)) (flat_map (λ i. dec_at (slice_get nodes i)) ls)) m), all_values ls ds e h.1)
+
+  pub shown_are : (q : Place) (tops : List Top) → At nodes 0 (program q tops) → spec.lets nodes ≡ all_lets 0 tops → IsAscending 0 (all_shown 0 tops) × AllByRecursion (λ d. has (spec.values nodes) d ≡ true) (all_shown 0 tops)
+  shown_are q tops at e = (shown_ascend tops 0 0 (omega arith), all_values (all_lets 0 tops) (all_shown 0 tops) e (all_shown_at q tops 0 at))
