@@ -12,7 +12,7 @@ use Rattle.sml_tree.specs.declared.bare.TypeExp.TheVariants as type
 use Rattle.sml_tree.specs.declared.tree.Tree.{Tree}
 use Rattle.sml_tree.specs.BareParts.{IsNumbered, at_node, node_parts, from_parts}
 use Rattle.sml_tree.specs.IsBare as spec
-use Rattle.sml_tree.specs.IsBare.{IsPreorder, HasSorts, IsDistinct, names_at, TypeStands, is_function, function_of, Stands, nest_of, is_finish}
+use Rattle.sml_tree.specs.IsBare.{IsPreorder, HasSorts, IsDistinct, names_at, TypeStands, is_function, function_of, Stands, nest_of, is_finish, IsAscending, IsBare}
 use Rattle.sml_tree.specs.Width.{width}
 use Rattle.sml_tree.specs.Free.{free}
 use Rattle.sml_tree.specs.Sets.{has}
@@ -32,7 +32,7 @@ use Rattle.expansion_laws.proofs.Sorts.{fit_of, sort_of_part}
 use Rattle.expansion_laws.proofs.Spans.{spans_of, distinct, all_tree, datas_at}
 use Rattle.expansion_laws.proofs.Bound.{bound_of}
 use Rattle.expansion_laws.proofs.Stands.{stands_of, base_stands}
-use Rattle.expansion_laws.proofs.Nests.{nest_is, ends_once}
+use Rattle.expansion_laws.proofs.Nests.{nest_is, ends_once, all_lets, lets_are, decs_are, first_is, shown_are}
 use Rattle.expansion_laws.proofs.ProgramsDone.{ProgramIs, program_done, types_done, start, start_scope, sizes_of}
 
 -- the trees of a parse tree stand where the grammar has them
@@ -138,3 +138,37 @@ module _ (t : Tree) (shaped : IsShaped t) (kept : broken t ≡ None) where
 
   pub end_all : count_by is_finish (bare_of t).nodes ≡ 1
   end_all = let p = forest_is t shaped kept in ap (λ x. count_by is_finish (numbered 0 x)) p.same ∙ ends_once p.node p.place p.parts p.is
+
+  lets_all : spec.lets (bare_of t).nodes ≡ all_lets 0 (tops (start_scope t.names) (trees t.nodes t.places) nothing_made).0
+  lets_all = let r = tops (start_scope t.names) (trees t.nodes t.places) nothing_made in lets_are (bare_of t).nodes numbered_all (last_place no_place r.0) r.0 0 (at_whole (forest_of t))
+
+  pub decs_all : IsAscending 0 (bare_of t).decs × AllByRecursion (λ i. has (spec.lets (bare_of t).nodes) i ≡ true) (bare_of t).decs
+  decs_all =
+      let r = tops (start_scope t.names) (trees t.nodes t.places) nothing_made in
+      subst (λ l. IsAscending 0 (bare_of t).decs × AllByRecursion (λ i. has l i ≡ true) (bare_of t).decs) (sym lets_all) (decs_are r.0)
+
+  pub first_dec_all : slice_get (bare_of t).decs 0 ≡ slice_get (spec.lets (bare_of t).nodes) 0
+  first_dec_all = let r = tops (start_scope t.names) (trees t.nodes t.places) nothing_made in first_is 0 r.0 ∙ ap (λ l. slice_get l 0) (sym lets_all)
+
+  pub shown_all : IsAscending 0 (bare_of t).shown × AllByRecursion (λ d. has (spec.values (bare_of t).nodes) d ≡ true) (bare_of t).shown
+  shown_all = let r = tops (start_scope t.names) (trees t.nodes t.places) nothing_made in shown_are (bare_of t).nodes (last_place no_place r.0) r.0 (at_whole (forest_of t)) lets_all
+
+  pub is_bare : suc (length (bare_of t).nodes) < 2 ^ 32 → (bare_of t).width ≤ width_limit → IsBare (bare_of t)
+  is_bare few narrow = record {
+    few = few;
+    numbered = numbered_all;
+    preorder = preorder_all;
+    places = places_stand;
+    sorts = sorts_all;
+    stands = stands_all;
+    types = types_all;
+    bound = bound_all;
+    once = once_all;
+    nest = nest_all;
+    end = end_all;
+    decs = decs_all;
+    first_dec = first_dec_all;
+    shown = shown_all;
+    width = refl;
+    narrow = omega (arith, narrow);
+  }
