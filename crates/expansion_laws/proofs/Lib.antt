@@ -18,4 +18,5 @@ pub mod Nests
 pub mod Bound
 pub mod Rows
 pub mod Stands
+pub mod Standing
 pub mod Clauses
