@@ -27,6 +27,8 @@ use Rattle.expansion_laws.proofs.Forms as f
 use Rattle.expansion_laws.proofs.Forms.{Is, From}
 use Rattle.expansion_laws.proofs.Growing.{TypeIn, TypesFrom}
 use Rattle.expansion_laws.proofs.Kinded.{Kinded, Dec}
+use Rattle.expansion_laws.proofs.Standing.{tree_shaped}
+use Rattle.expansion_laws.specs.Laws.{ExpandsToBare}
 use Rattle.expansion_laws.proofs.Positions.{At, at_whole, how_many, how_many_places, all_numbered, Fit, is_numbered, is_preorder}
 use Rattle.expansion_laws.proofs.Sorts.{fit_of, sort_of_part}
 use Rattle.expansion_laws.proofs.Spans.{spans_of, distinct, all_tree, datas_at}
@@ -172,3 +174,7 @@ module _ (t : Tree) (shaped : IsShaped t) (kept : broken t ≡ None) where
     width = refl;
     narrow = omega (arith, narrow);
   }
+
+-- the whole law
+pub expands_to_bare : (t : Tree) → ExpandsToBare t
+expands_to_bare t chars few kept narrow = is_bare t (tree_shaped t chars) kept few narrow

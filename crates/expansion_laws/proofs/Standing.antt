@@ -17,6 +17,7 @@ use Rattle.sml_expansion.proofs.KindLemmas.{shaped_trees, one_part, two_parts, t
 use Rattle.expansion_laws.proofs.Kinded as k
 use Rattle.expansion_laws.proofs.Kinded.{Kinded, leaves_in}
 use Rattle.expansion_laws.proofs.DeclarationsDone.{all_reverse}
+use Rattle.expansion_laws.specs.Laws.{CharFits}
 
 -- ---- Leaves
 
@@ -25,11 +26,6 @@ LeafFact texts (node.Int i) = IsInt i
 LeafFact texts (node.Char c) = c < 256
 LeafFact texts (node.Text t) = t < texts
 LeafFact texts _ = Unit {0}
-
--- a character is a byte
-abbrev pub CharFits : TreeNode → Type 0
-CharFits (node.Char c) = c < 256
-CharFits _ = Unit {0}
 
 abbrev Leaves : ℕ → Term → Type 0
 Leaves texts (leaf n p) = LeafFact texts n
