@@ -1,13 +1,10 @@
 -- Each name that is cited is bound around it.
-use Rattle.std.proofs.Common.{◌≡◌, ℕ, zero, suc, ◌<◌, ◌≤◌, ◌+◌, ◌⊎◌, inl, inr, true, false, List, [], ◌∷◌, ◌++◌, map, length, refl, sym, ap, subst, ◌∙◌, Option, Some, None, arith, eqb-true, eq-eqb}
+use Rattle.std.proofs.Common.{◌≡◌, ℕ, suc, ◌+◌, ◌⊎◌, inl, inr, true, false, List, [], ◌∷◌, ◌++◌, length, sym, ap, subst, ◌∙◌, Some, arith, eqb-true, eq-eqb}
 use Rattle.std.specs.Prelude.{slice_get, Bool, nat_eq, ◌||◌}
 use Rattle.std.specs.List.{AllByRecursion}
-use Rattle.std.proofs.lemmas.List.{length-map}
-use Rattle.smlc_base.specs.declared.place.Place.{Place}
 use Rattle.sml_tree.specs.declared.bare.Con.{Con}
 use Rattle.sml_tree.specs.declared.bare.Con.TheVariants as con
 use Rattle.sml_tree.specs.declared.bare.Node.{Node}
-use Rattle.sml_tree.specs.declared.bare.Node.TheVariants as node
 use Rattle.sml_tree.specs.declared.bare.Field.{Field}
 use Rattle.sml_tree.specs.declared.bare.RecBinding.{RecBinding}
 use Rattle.sml_tree.specs.BareParts.{IsNumbered}
@@ -17,8 +14,8 @@ use Rattle.sml_tree.proofs.FreeParts.{binds_unfold, free_unfold}
 use Rattle.sml_tree.proofs.Members.{has-union, either, or_left, or_right, without_parts}
 use Rattle.sml_expansion.specs.declared.made.Made.{Made}
 use Rattle.sml_expansion.specs.Bare.{fields}
-use Rattle.sml_expansion.specs.Forests.{Forest, none, tree, grown, size, count, roots, numbered, with_parts, fields_at, rules_at, bindings_at, rec_bindings_at, part}
-use Rattle.expansion_laws.proofs.Contexts.{Among, Context, with_vars, ConIn, among_split, among_left}
+use Rattle.sml_expansion.specs.Forests.{Forest, size, roots, with_parts, fields_at, rules_at, bindings_at, rec_bindings_at, part}
+use Rattle.expansion_laws.proofs.Contexts.{Among, Context, with_vars, ConIn, among_split}
 use Rattle.expansion_laws.proofs.Forms as f
 use Rattle.expansion_laws.proofs.Forms.{Sizes, Is, Part}
 use Rattle.expansion_laws.proofs.Joined.{counted, counted_patterns}
@@ -185,27 +182,29 @@ module _ (nodes : List Node) (num : IsNumbered nodes) where
   bound_of g r t f.no_function = λ i at. tt
   bound_of g r t (f.more_functions {a = a} {parts = parts} {rest = rest} {j = j} h i) = λ k at. (free_at g.vars k (with_parts a (roots (suc k) parts)) at.0 (bound_of g (f.function a) parts h (suc k) at.1), bound_of g (f.functions j) rest i (suc (k + size parts)) at.2)
   bound_of g r t f.no_pattern = (λ i at. tt, λ i at x a. absurd a)
-  bound_of g r t (f.more_patterns {a = a} {parts = parts} {rest = rest} {j = j} {xs = xs} {ys = ys} h i) = let d = bound_of g (f.pattern a xs) parts h in let e = bound_of g (f.patterns j ys) rest i in
-      ((λ k at. (free_at g.vars k (with_parts a (roots (suc k) parts)) at.0 (d.0 (suc k) at.1), e.0 (suc (k + size parts)) at.2)),
-      (λ k at. more_binds k (roots (suc (k + size parts)) rest) xs ys (λ x m. binds_at k (with_parts a (roots (suc k) parts)) at.0 x (d.1 (suc k) at.1 x m)) (e.1 (suc (k + size parts)) at.2)))
+  bound_of g r t (f.more_patterns {a = a} {parts = parts} {rest = rest} {j = j} {xs = xs} {ys = ys} h i) = let d = bound_of g (f.pattern a xs) parts h in let e = bound_of g (f.patterns j ys) rest i in (
+    (λ k at. (free_at g.vars k (with_parts a (roots (suc k) parts)) at.0 (d.0 (suc k) at.1), e.0 (suc (k + size parts)) at.2)),
+    (λ k at. more_binds k (roots (suc (k + size parts)) rest) xs ys (λ x m. binds_at k (with_parts a (roots (suc k) parts)) at.0 x (d.1 (suc k) at.1 x m)) (e.1 (suc (k + size parts)) at.2)),
+  )
   bound_of g r t f.no_rule = λ i at. within_none g.vars
   bound_of g r t (f.more_rules {a = a} {b = b} {parts = parts} {inner = inner} {rest = rest} {xs = xs} h o w) = λ k at.
       let k2 = suc (k + size parts) in
       let d = bound_of g (f.pattern a xs) parts h in
       within_union g.vars (scoped (binds nodes) (free nodes) k k2) (free_match (binds nodes) (free nodes) (rules_at (roots (suc (k2 + size inner)) rest)))
       (within_scoped (binds nodes) (free nodes) g.vars (xs ++ g.vars) k k2 (free_at g.vars k (with_parts a (roots (suc k) parts)) at.0 (d.0 (suc k) at.1))
-        (free_at (xs ++ g.vars) k2 (with_parts b (roots (suc k2) inner)) at.2.0 (bound_of (with_vars xs g) (f.expression b) inner o (suc k2) at.2.1))
-        (under_vars xs g.vars (binds nodes k) (λ x m. binds_at k (with_parts a (roots (suc k) parts)) at.0 x (d.1 (suc k) at.1 x m))))
+      (free_at (xs ++ g.vars) k2 (with_parts b (roots (suc k2) inner)) at.2.0 (bound_of (with_vars xs g) (f.expression b) inner o (suc k2) at.2.1))
+      (under_vars xs g.vars (binds nodes k) (λ x m. binds_at k (with_parts a (roots (suc k) parts)) at.0 x (d.1 (suc k) at.1 x m))))
       (bound_of g f.rules rest w (suc (k2 + size inner)) at.2.2)
   bound_of g r t f.no_binding = (λ i at. within_none g.vars, λ i at x a. absurd a)
-  bound_of g r t (f.more_bindings {a = a} {b = b} {parts = parts} {inner = inner} {rest = rest} {j = j} {xs = xs} {ys = ys} h o w) = let d = bound_of g (f.pattern a xs) parts h in let e = bound_of g (f.bindings j ys) rest w in
-      ((λ k at. let k2 = suc (k + size parts) in
+  bound_of g r t (f.more_bindings {a = a} {b = b} {parts = parts} {inner = inner} {rest = rest} {j = j} {xs = xs} {ys = ys} h o w) = let d = bound_of g (f.pattern a xs) parts h in let e = bound_of g (f.bindings j ys) rest w in (
+    (λ k at. let k2 = suc (k + size parts) in
         within_union g.vars (union (free nodes k) (free nodes k2)) (union_over (λ b. union (free nodes b.pat) (free nodes b.right)) (bindings_at (roots (suc (k2 + size inner)) rest)))
         (within_union g.vars (free nodes k) (free nodes k2) (free_at g.vars k (with_parts a (roots (suc k) parts)) at.0 (d.0 (suc k) at.1)) (free_at g.vars k2 (with_parts b (roots (suc k2) inner)) at.2.0 (bound_of g (f.expression b) inner o (suc k2) at.2.1)))
         (e.0 (suc (k2 + size inner)) at.2.2)),
-      (λ k at. let k2 = suc (k + size parts) in
+    (λ k at. let k2 = suc (k + size parts) in
         either_binds xs ys (binds nodes k) (union_over (λ b. binds nodes b.pat) (bindings_at (roots (suc (k2 + size inner)) rest)))
-        (λ x m. binds_at k (with_parts a (roots (suc k) parts)) at.0 x (d.1 (suc k) at.1 x m)) (e.1 (suc (k2 + size inner)) at.2.2)))
+        (λ x m. binds_at k (with_parts a (roots (suc k) parts)) at.0 x (d.1 (suc k) at.1 x m)) (e.1 (suc (k2 + size inner)) at.2.2)),
+  )
   bound_of g r t f.no_declaration = tt
   bound_of g r t (f.more_declarations h i) = tt
   bound_of g r t (f.is_int i o) = λ j at. within_none g.vars

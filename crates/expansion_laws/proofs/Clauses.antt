@@ -1,10 +1,8 @@
 -- What the bare tree of a program keeps, clause by clause.
-use Rattle.std.proofs.Common.{◌≡◌, ℕ, zero, suc, ◌<◌, ◌≤◌, ◌+◌, ◌^◌, true, false, eq-eqb, List, [], ◌∷◌, ◌++◌, length, refl, sym, ap, subst, ◌∙◌, Option, Some, None, arith}
+use Rattle.std.proofs.Common.{◌≡◌, ℕ, zero, suc, ◌<◌, ◌≤◌, ◌+◌, ◌^◌, true, false, eq-eqb, List, [], ◌∷◌, length, refl, sym, ap, subst, ◌∙◌, Some, None, arith}
 use Rattle.std.specs.Prelude.{Bool, slice_get, flat_map, count_by, ◌||◌}
 use Rattle.std.specs.List.{AllByRecursion}
 use Rattle.std.proofs.lemmas.List.{append-nil}
-use Rattle.smlc_base.specs.declared.place.Place.{Place}
-use Rattle.sml_tree.specs.declared.bare.Bare.{Bare}
 use Rattle.sml_tree.specs.declared.bare.Node.{Node}
 use Rattle.sml_tree.specs.declared.bare.Node.TheVariants as node
 use Rattle.sml_tree.specs.declared.bare.TypeExp.{TypeExp}
@@ -13,15 +11,14 @@ use Rattle.sml_tree.specs.declared.tree.Tree.{Tree}
 use Rattle.sml_tree.specs.BareParts.{IsNumbered, at_node, node_parts, from_parts}
 use Rattle.sml_tree.specs.IsBare as spec
 use Rattle.sml_tree.specs.IsBare.{IsPreorder, HasSorts, IsDistinct, names_at, TypeStands, is_function, function_of, Stands, nest_of, is_finish, IsAscending, IsBare}
-use Rattle.sml_tree.specs.Width.{width}
 use Rattle.sml_tree.specs.Free.{free}
 use Rattle.sml_tree.specs.Sets.{has}
 use Rattle.sml_tree.proofs.FreeParts.{free_unfold}
 use Rattle.sml_tree.proofs.Unfold.{by_parts}
-use Rattle.sml_expansion.specs.Forests.{Forest, none, tree, grown, numbered, places, roots, with_parts}
+use Rattle.sml_expansion.specs.Forests.{Forest, none, grown, numbered, roots, with_parts}
 use Rattle.sml_expansion.specs.Makings.{nothing_made}
 use Rattle.sml_expansion.specs.Programs.{tops, program, last_place, no_place}
-use Rattle.sml_expansion.specs.Terms.{Term, trees}
+use Rattle.sml_expansion.specs.Terms.{trees}
 use Rattle.sml_expansion.specs.Whole.{bare_of, broken, width_limit}
 use Rattle.expansion_laws.proofs.Forms as f
 use Rattle.expansion_laws.proofs.Forms.{Is, From}

@@ -1,11 +1,11 @@
 -- What is in scope: variables by the numbers of their bindings, and constructors of datatypes.
-use Rattle.std.proofs.Common.{◌≡◌, ℕ, true, false, List, [], ◌∷◌, ◌++◌, refl, sym, subst, ◌⊎◌, inl, inr}
+use Rattle.std.proofs.Common.{◌≡◌, ℕ, true, false, List, [], ◌∷◌, ◌++◌, ◌⊎◌, inl, inr}
 use Rattle.std.specs.List.{AllByRecursion}
 use Rattle.sml_tree.specs.declared.bare.Con.{Con}
 use Rattle.sml_tree.specs.declared.bare.Con.TheVariants as con
 use Rattle.sml_expansion.specs.declared.meaning.Meaning.{Meaning}
 use Rattle.sml_expansion.specs.declared.meaning.Meaning.TheVariants.{Variable, Constructor, Builtin}
-use Rattle.sml_expansion.specs.Scopes.{Scope, Env}
+use Rattle.sml_expansion.specs.Scopes.{Scope}
 
 -- x stands in a list
 abbrev pub Among : {A : Type 0} → A → List A → Type 0

@@ -1,8 +1,8 @@
 -- Type variables, and declarations of types, datatypes and exceptions.
-use Rattle.std.proofs.Common.{◌≡◌, ℕ, zero, suc, ◌<◌, ◌≤◌, ◌+◌, true, false, List, [], ◌∷◌, ◌++◌, map, reverse, length, refl, sym, ap, subst, ◌∙◌, Option, Some, None, arith, inl, inr, if◌then◌else◌}
-use Rattle.std.specs.Prelude.{Bool, filter, nat_eq}
+use Rattle.std.proofs.Common.{◌≡◌, ℕ, suc, ◌<◌, ◌≤◌, ◌+◌, List, [], ◌∷◌, ◌++◌, map, reverse, length, refl, sym, ap, subst, ◌∙◌, Option, Some, None, arith, inl, inr, if◌then◌else◌}
+use Rattle.std.specs.Prelude.{filter, nat_eq}
 use Rattle.std.specs.List.{AllByRecursion}
-use Rattle.std.proofs.lemmas.List.{length-append, length-map, map-append, reverse-append}
+use Rattle.std.proofs.lemmas.List.{length-append, length-map, reverse-append}
 use Rattle.smlc_base.specs.declared.place.Place.{Place}
 use Rattle.smlc_base.specs.declared.refusal.Refusal.{Refusal}
 use Rattle.smlc_base.specs.declared.refusal.Refusal.TheVariants as refusal
@@ -11,32 +11,30 @@ use Rattle.sml_tree.specs.declared.bare.Con.TheVariants as con
 use Rattle.sml_tree.specs.declared.bare.ConBinding.{ConBinding}
 use Rattle.sml_tree.specs.declared.bare.DatBinding.{DatBinding}
 use Rattle.sml_tree.specs.declared.bare.TypeBinding.{TypeBinding}
-use Rattle.sml_tree.specs.declared.bare.Node.TheVariants as bare
 use Rattle.sml_tree.specs.declared.tree_node.TreeNode.TheVariants as node
 use Rattle.sml_expansion.specs.declared.made.Made.{Made}
 use Rattle.sml_expansion.specs.declared.meaning.Meaning.{Meaning}
 use Rattle.sml_expansion.specs.declared.meaning.Meaning.TheVariants.{Variable, Constructor, Builtin}
 use Rattle.sml_expansion.specs.declared.scope.Ident.{Ident}
 use Rattle.sml_expansion.specs.declared.scope.Bound.{Bound}
-use Rattle.sml_expansion.specs.Forests.{Forest, none, tree, grown, count, ◌&◌}
+use Rattle.sml_expansion.specs.Forests.{Forest}
 use Rattle.sml_expansion.specs.Terms.{Term, leaf, one, two, three, four}
 use Rattle.sml_expansion.specs.Labels.{doubles}
-use Rattle.sml_expansion.specs.Makings.{Makes, breaks, new_tyvar, new_name, new_abbreviation, new_type_name}
+use Rattle.sml_expansion.specs.Makings.{breaks, new_tyvar, new_name}
 use Rattle.sml_expansion.specs.Scopes.{Scope, Env, ident, text_of, meaning_of, is_fixed, within}
 use Rattle.sml_expansion.specs.Types.{type_of}
 use Rattle.sml_expansion.specs.Patterns.{idents_once, not_fixed, env_of}
 use Rattle.sml_expansion.specs.TypeVariables.{new_tyvars, opens, params, only_params, in_scope, numbers_of, tyvars, once, keys_of, bound_again}
-use Rattle.sml_expansion.specs.Bindings.{Decs, type_bindings, type_dec, new_datatypes, constructors, NewCon, has, con_meanings, DatDecs, datatype_of, datatypes, type_env, first_number, none_fixed, datatype_dec, ExDecs, exception_of, renaming_of, is_exception, unbound, exceptions, exception_dec}
-use Rattle.sml_prelude.specs.Values.{takes_argument}
+use Rattle.sml_expansion.specs.Bindings.{Decs, type_bindings, type_dec, new_datatypes, constructors, NewCon, has, con_meanings, DatDecs, datatypes, type_env, first_number, none_fixed, datatype_dec, ExDecs, exception_of, renaming_of, unbound, exceptions, exception_dec}
 use Rattle.expansion_laws.proofs.Contexts.{Among, Context, with_vars, with_cons, ConIn, MeaningIn, EnvIn, ScopeIn, Wider, wider_same, wider_vars, wider_cons, wider_both, env_wider, env_both, among_left, among_right}
 use Rattle.expansion_laws.proofs.Forms as f
 use Rattle.expansion_laws.proofs.Forms.{Sizes, Quiet, Names, Is, before, after, cons_from, data_cons, DatasIn, ArgIn, declarations}
-use Rattle.expansion_laws.proofs.Growing.{Grows, grows_same, grows_both, breaks_grows, breaks_quiet, breaks_nothing, name_grows, name_names, tyvar_grows, tyvar_number, TyvarsIn, tyvars_on, Ends, ends_back, Done, done_same, done_so}
+use Rattle.expansion_laws.proofs.Growing.{Grows, grows_same, grows_both, breaks_grows, breaks_quiet, name_grows, name_names, tyvar_grows, tyvar_number, TyvarsIn, tyvars_on, ends_back, Done}
 use Rattle.expansion_laws.proofs.Joined.{join_declarations}
 use Rattle.expansion_laws.proofs.Kinded as k
 use Rattle.expansion_laws.proofs.Kinded.{Kind, Kinded, TypBinds, DatBind, DatBinds, ConBinds, ExBinds, leaves_in}
-use Rattle.expansion_laws.proofs.TypesDone.{TypeMade, type_made, quiet_same, quiet_both, all_both}
-use Rattle.expansion_laws.proofs.PatternsDone.{OptionIn, option_in, refused}
+use Rattle.expansion_laws.proofs.TypesDone.{type_made, quiet_same, quiet_both, all_both}
+use Rattle.expansion_laws.proofs.PatternsDone.{option_in}
 use Rattle.sml_tree.proofs.Unfold.{all_map}
 
 -- ---- Lists
@@ -65,9 +63,10 @@ vars_env g (v ∷ vars) h = (h.0, vars_env g vars h.1)
 
 vars_among : (front : List ℕ) (rest : List ℕ) (vars : List Bound) → AllByRecursion (λ v. Among v.name (front ++ (map (λ v. v.name) vars ++ rest))) vars
 vars_among front rest [] = tt
-vars_among front rest (v ∷ vars) =
-    (among_right v.name front (v.name ∷ (map (λ v. v.name) vars ++ rest)) (inl refl),
-    subst (λ l. AllByRecursion (λ w. Among w.name l) vars) (shift front) (vars_among (front ++ v.name ∷ []) rest vars))
+vars_among front rest (v ∷ vars) = (
+  among_right v.name front (v.name ∷ (map (λ v. v.name) vars ++ rest)) (inl refl),
+  subst (λ l. AllByRecursion (λ w. Among w.name l) vars) (shift front) (vars_among (front ++ v.name ∷ []) rest vars),
+)
   where
     shift : (front : List ℕ) → (front ++ v.name ∷ []) ++ (map (λ v. v.name) vars ++ rest) ≡ front ++ (v.name ∷ (map (λ v. v.name) vars ++ rest))
     shift [] = refl
@@ -167,12 +166,15 @@ type_dec_done z s p t h m v =
     let d = type_bindings_made s t h m v in
     let x = (type_bindings s t m).0 in
     let k = (type_bindings s t m).1 in
-    record { grows = grows_both d.grows (idents_grows x.idents k); says = λ e g i. record {
-      after = g;
-      is = before (quiet_both d.quiet (idents_quiet x.idents k)) (f.more_declarations (f.is_type x.bindings (let y = e.types in all_map (λ b le. omega (arith, le, y)) x.bindings d.all)) f.no_declaration);
-      env = tt;
-      wider = wider_same g;
-    } }
+    record {
+      grows = grows_both d.grows (idents_grows x.idents k);
+      says = λ e g i. record {
+        after = g;
+        is = before (quiet_both d.quiet (idents_quiet x.idents k)) (f.more_declarations (f.is_type x.bindings (let y = e.types in all_map (λ b le. omega (arith, le, y)) x.bindings d.all)) f.no_declaration);
+        env = tt;
+        wider = wider_same g;
+      };
+    }
 
 -- `datatype`
 
@@ -207,9 +209,12 @@ constructors_made s t (k.more_con_binds p {a} {b} h i) m w =
     let le = e.grows.types in
     let both = length-append x.0 y.0 in
     let f1 = d.few in let f2 = e.few in
-    record { grows = grows_both d.grows e.grows; quiet = quiet_both d.quiet e.quiet;
-             all = all_both {A = NewCon} (λ c. ArgIn (length y.1.types) c.arg) x.0 y.0 (all_map (λ c q. arg_later (length x.1.types) (length y.1.types) le c.arg q) x.0 d.all) e.all;
-             few = omega (arith, both, f1, f2) }
+    record {
+      grows = grows_both d.grows e.grows;
+      quiet = quiet_both d.quiet e.quiet;
+      all = all_both {A = NewCon} (λ c. ArgIn (length y.1.types) c.arg) x.0 y.0 (all_map (λ c q. arg_later (length x.1.types) (length y.1.types) le c.arg q) x.0 d.all) e.all;
+      few = omega (arith, both, f1, f2);
+    }
 
 abbrev con_bindings : List (List ℕ) → List NewCon → List ConBinding
 con_bindings names cs = map (λ c. record { text = text_of names c.ident.key; arg = c.arg }) cs
@@ -310,14 +315,17 @@ datatype_dec_done z s p t h m v =
     let c = (none_fixed s.names x.0.idents x.1).1 in
     let gc = grows_both e.grows (grows_both (fixed_grows s.names x.0.idents x.1) (idents_grows x.0.idents c)) in
     let qc = quiet_both e.quiet (quiet_both (fixed_quiet s.names x.0.idents x.1) (idents_quiet x.0.idents c)) in
-    record { grows = grows_both gb gc; says = λ y g i. record {
-      after = with_cons (data_cons x.0.bindings) g;
-      is = f.more_declarations (f.is_datatype x.0.bindings
-        (subst (λ l. DatasIn z.types l x.0.bindings) d.first (datas_later (length x.1.types) z.types (let u = y.types in let w = grows_both (fixed_grows s.names x.0.idents x.1) (idents_grows x.0.idents c) in let w' = w.types in omega (arith, u, w')) (first_number a.0) x.0.bindings e.all))
-        (qc.names ∙ d.names) (qc.datas ∙ d.datas ∙ ap (λ l. m.type_names + l) (sym e.total))) f.no_declaration;
-      env = e.values (with_cons (data_cons x.0.bindings) g) (λ c h. among_left c (data_cons x.0.bindings) g.cons h);
-      wider = wider_cons (data_cons x.0.bindings) g;
-    } }
+    record {
+      grows = grows_both gb gc;
+      says = λ y g i. record {
+        after = with_cons (data_cons x.0.bindings) g;
+        is = f.more_declarations (f.is_datatype x.0.bindings
+            (subst (λ l. DatasIn z.types l x.0.bindings) d.first (datas_later (length x.1.types) z.types (let u = y.types in let w = grows_both (fixed_grows s.names x.0.idents x.1) (idents_grows x.0.idents c) in let w' = w.types in omega (arith, u, w')) (first_number a.0) x.0.bindings e.all))
+            (qc.names ∙ d.names) (qc.datas ∙ d.datas ∙ ap (λ l. m.type_names + l) (sym e.total))) f.no_declaration;
+        env = e.values (with_cons (data_cons x.0.bindings) g) (λ c h. among_left c (data_cons x.0.bindings) g.cons h);
+        wider = wider_cons (data_cons x.0.bindings) g;
+      };
+    }
 
 -- `exception`
 
@@ -367,10 +375,13 @@ exceptions_done z s p t (k.more_ex_binds q {a} {b} h j) m w =
     let y = exceptions s p b x.1 in
     let d = exceptions_done z s p a h m w in
     let e = exceptions_done z s p b j x.1 (tyvars_on s.tyvars d.grows w) in
-    record { grows = grows_both d.grows e.grows; says = λ r g i.
-      let o = d.says (ends_back e.grows r) g i in
-      let u = e.says r o.after (scope_wider o.wider i) in
-      record { after = u.after; is = join_declarations o.is u.is; env = env_both u.after y.0.values x.0.values u.env (env_wider u.wider x.0.values o.env); wider = wider_both o.wider u.wider } }
+    record {
+      grows = grows_both d.grows e.grows;
+      says = λ r g i.
+          let o = d.says (ends_back e.grows r) g i in
+          let u = e.says r o.after (scope_wider o.wider i) in
+          record { after = u.after; is = join_declarations o.is u.is; env = env_both u.after y.0.values x.0.values u.env (env_wider u.wider x.0.values o.env); wider = wider_both o.wider u.wider };
+    }
 
 pub exception_dec_done : (z : Sizes) (s : Scope) (p : Place) (t : Term) → Kinded z.texts ExBinds t → (m : Made) → TyvarsIn s m → DecsDone z s m (exception_dec s p t m)
 exception_dec_done z s p t h m v =

@@ -1,28 +1,24 @@
 -- The derived forms are forms.
-use Rattle.std.proofs.Common.{◌≡◌, ℕ, zero, suc, ◌<◌, ◌≤◌, ◌+◌, ◌==◌, true, false, cond, pos, List, [], ◌∷◌, ◌++◌, map, length, refl, sym, ap, subst, ◌∙◌, Option, Some, None, arith, inl, inr, if◌then◌else◌, int_lt, eqb-true}
+use Rattle.std.proofs.Common.{◌≡◌, ℕ, zero, suc, ◌<◌, ◌≤◌, ◌+◌, ◌==◌, true, false, pos, List, [], ◌∷◌, ◌++◌, map, length, refl, sym, ap, subst, ◌∙◌, arith, inl, inr, if◌then◌else◌, int_lt, eqb-true}
 use Rattle.std.specs.Prelude.{Bool, not, ◌||◌}
 use Rattle.std.specs.List.{AllByRecursion, list_any}
-use Rattle.std.proofs.lemmas.List.{append_assoc, append-nil}
 use Rattle.smlc_base.specs.declared.place.Place.{Place}
-use Rattle.smlc_base.specs.declared.refusal.Refusal.{Refusal}
 use Rattle.smlc_base.specs.declared.refusal.Refusal.TheVariants as refusal
 use Rattle.sml_tree.specs.declared.bare.Con.{Con}
-use Rattle.sml_tree.specs.declared.bare.Con.TheVariants as con
 use Rattle.sml_tree.specs.declared.bare.Lab.{Lab}
 use Rattle.sml_tree.specs.declared.bare.Lab.TheVariants.{Num}
 use Rattle.sml_tree.specs.declared.bare.Node.{Node}
 use Rattle.sml_tree.specs.declared.bare.Node.TheVariants as node
-use Rattle.sml_tree.specs.IsBare.{lab_less}
 use Rattle.sml_expansion.specs.declared.made.Made.{Made}
 use Rattle.sml_expansion.specs.Makings.{new_name}
 use Rattle.sml_expansion.specs.Forests.{Forest, none, tree, grown, count, ◌&◌}
 use Rattle.sml_expansion.specs.Bare as bare
 use Rattle.sml_expansion.specs.Labels.{numbers, lab_eq, doubles}
-use Rattle.expansion_laws.proofs.Contexts.{Among, Context, with_vars, with_cons, ConIn, base_cons, Wider, wider_vars, wider_both, wider_same}
+use Rattle.expansion_laws.proofs.Contexts.{Among, Context, with_vars, base_cons, Wider, wider_vars, wider_both, wider_same}
 use Rattle.expansion_laws.proofs.Forms as f
 use Rattle.expansion_laws.proofs.Forms.{Sizes, Quiet, Names, From, LabelsOnce, Part, Is, expression, function, pattern, declaration, expressions, functions, patterns, rules, bindings, declarations, before, after}
 use Rattle.expansion_laws.proofs.Growing.{name_names}
-use Rattle.expansion_laws.proofs.Joined.{alone, one_expression, one_pattern, one_function, join, join_patterns, join_rules, counted, counted_patterns, app_form, case_form, rule_form, con_form, con_pattern_form, Alone}
+use Rattle.expansion_laws.proofs.Joined.{alone, one_expression, one_pattern, one_function, join, join_patterns, join_rules, counted, counted_patterns, app_form, case_form, rule_form, con_form, con_pattern_form}
 
 -- ---- Labels
 
@@ -142,8 +138,8 @@ module _ {z : Sizes} {g : Context} where
 
   pub if_form : {m k l n : Made} {s t u : Forest} (p : Place) → HasBase g → Is z g m k (expressions 1) s → Is z g k l (expressions 1) t → Is z g l n (expressions 1) u → Is z g m n (expressions 1) (bare.if_node p s t u)
   if_form p b s t u = case_form p s (join_rules
-    (rule_form [] (con_pattern_form p bare.con_true (b bare.con_true (inr (inl refl)))) t)
-    (rule_form [] (con_pattern_form p bare.con_false (b bare.con_false (inl refl))) u))
+      (rule_form [] (con_pattern_form p bare.con_true (b bare.con_true (inr (inl refl)))) t)
+      (rule_form [] (con_pattern_form p bare.con_false (b bare.con_false (inl refl))) u))
 
   pub sequence_form : {n : Made} (p : Place) (j : ℕ) {m : Made} {t : Forest} → Is z g m n (expressions (suc j)) t → Is z g m n (expressions 1) (bare.sequence_node p t)
   sequence_form {n} p zero {m} {t} h =
@@ -243,9 +239,10 @@ first_name v vs m n e =
     let d = name_names [] m in
     let one : length (new_name [] m).1.names ≡ length m.names + 1 = d.names in
     let two : length n.names ≡ length m.names + suc (length vs) = e.names in
-    let three : suc (length m.names) ≡ length (new_name [] m).1.names = omega (arith, one) in
-    (record { from = (e.from.0, tt); names = d.names; datas = d.datas },
-    record { from = subst (λ i. From i vs) three e.from.1; names = omega (arith, one, two); datas = e.datas })
+    let three : suc (length m.names) ≡ length (new_name [] m).1.names = omega (arith, one) in (
+      record { from = (e.from.0, tt); names = d.names; datas = d.datas },
+      record { from = subst (λ i. From i vs) three e.from.1; names = omega (arith, one, two); datas = e.datas },
+    )
 
 pub no_names : (m n : Made) → Names m [] n → Quiet m n
 no_names m n e = let y : length n.names ≡ length m.names + 0 = e.names in record { names = omega (arith, y); datas = e.datas }

@@ -1,16 +1,13 @@
 -- Expressions, matches and declarations expand to what they are.
-use Rattle.std.proofs.Common.{◌≡◌, ℕ, zero, suc, ◌<◌, ◌≤◌, ◌+◌, true, false, List, [], ◌∷◌, ◌++◌, map, length, refl, sym, ap, subst, ◌∙◌, Option, Some, None, arith, inl, inr, ◌⊎◌, if◌then◌else◌}
+use Rattle.std.proofs.Common.{◌≡◌, ℕ, suc, ◌<◌, ◌≤◌, ◌+◌, true, false, List, [], ◌∷◌, ◌++◌, map, length, refl, sym, ap, subst, ◌∙◌, Option, Some, None, arith, inl, inr, ◌⊎◌, if◌then◌else◌}
 use Rattle.std.specs.Prelude.{Bool, codes}
 use Rattle.std.specs.List.{AllByRecursion}
 use Rattle.std.proofs.lemmas.List.{length-append, length-map, map-append, append-nil}
 use Rattle.smlc_base.specs.declared.place.Place.{Place}
-use Rattle.smlc_base.specs.declared.refusal.Refusal.{Refusal}
 use Rattle.smlc_base.specs.declared.refusal.Refusal.TheVariants as refusal
-use Rattle.sml_tree.specs.declared.bare.Con.{Con}
 use Rattle.sml_tree.specs.declared.bare.Lab.{Lab}
 use Rattle.sml_tree.specs.declared.bare.Node.{Node}
 use Rattle.sml_tree.specs.declared.bare.Node.TheVariants as bare
-use Rattle.sml_tree.specs.declared.bare.RecBinding.{RecBinding}
 use Rattle.sml_tree.specs.declared.tree_node.TreeNode.TheVariants as node
 use Rattle.sml_prelude.specs.Values.{is_function, takes_argument}
 use Rattle.sml_expansion.specs.declared.made.Made.{Made}
@@ -18,31 +15,31 @@ use Rattle.sml_expansion.specs.declared.meaning.Meaning.{Meaning}
 use Rattle.sml_expansion.specs.declared.meaning.Meaning.TheVariants.{Variable, Constructor, Builtin}
 use Rattle.sml_expansion.specs.declared.scope.Ident.{Ident}
 use Rattle.sml_expansion.specs.declared.scope.Bound.{Bound}
-use Rattle.sml_expansion.specs.Forests.{Forest, none, tree, grown, count, ◌&◌}
-use Rattle.sml_expansion.specs.Terms.{Term, leaf, one, two, three, four, place_at}
+use Rattle.sml_expansion.specs.Forests.{Forest, none, tree, grown, ◌&◌}
+use Rattle.sml_expansion.specs.Terms.{Term, one, two, three, place_at}
 use Rattle.sml_expansion.specs.Labels.{doubles, lab_eq}
 use Rattle.sml_expansion.specs.Makings.{Makes, breaks, gives, new_name, new_names, ◌>>=◌, ◌>>◌}
-use Rattle.sml_expansion.specs.Scopes.{Scope, Env, ident, meaning_of, within, followed, nothing}
+use Rattle.sml_expansion.specs.Scopes.{Scope, Env, ident, meaning_of, within}
 use Rattle.sml_expansion.specs.Types.{labels, labels_once, type_of}
 use Rattle.sml_expansion.specs.TypeVariables.{tyvars, unguarded, opens, in_scope, numbers_of}
-use Rattle.sml_expansion.specs.Patterns.{Pattern, patterns, vars_once, whole, env_of}
-use Rattle.sml_expansion.specs.Clauses.{arguments, binds_functions, head, first_clause, arguments_in} 
+use Rattle.sml_expansion.specs.Patterns.{Pattern, patterns, vars_once, env_of}
+use Rattle.sml_expansion.specs.Clauses.{arguments, binds_functions, head, first_clause, arguments_in}
 use Rattle.sml_expansion.specs.Clauses as clauses
-use Rattle.sml_expansion.specs.Bindings.{Decs, rec_names, annotations, is_typed_fn, fn_on_the_right}
+use Rattle.sml_expansion.specs.Bindings.{rec_names, annotations, is_typed_fn, fn_on_the_right}
 use Rattle.sml_expansion.specs.Bare as form
-use Rattle.sml_expansion.specs.Expressions.{Position, function_part, elsewhere, eta, named, identifier, is_fn, rules_in, application, both, binding, both_bindings, rule, rec_bindings, plain_dec, rec_dec, decs_of, decs_behind, decs_inside, expressions, rules, plain_bindings, rec_rights, functions, decs}
-use Rattle.expansion_laws.proofs.Contexts.{Among, Context, with_vars, ConIn, MeaningIn, EnvIn, ScopeIn, Wider, wider_same, wider_vars, wider_both, con_wider, env_wider, env_both, among_left, among_right, among_split}
+use Rattle.sml_expansion.specs.Expressions.{Position, function_part, elsewhere, eta, named, identifier, is_fn, rules_in, application, both, rule, rec_bindings, plain_dec, rec_dec, expressions, rules, plain_bindings, rec_rights, functions, decs}
+use Rattle.expansion_laws.proofs.Contexts.{Among, Context, with_vars, ScopeIn, Wider, wider_same, wider_vars, wider_both, con_wider, env_wider, env_both, among_left, among_right, among_split}
 use Rattle.expansion_laws.proofs.Forms as f
 use Rattle.expansion_laws.proofs.Forms.{Sizes, Quiet, Names, Is, Part, before, after, bindings, declarations}
-use Rattle.expansion_laws.proofs.Growing.{Grows, grows_same, grows_both, breaks_grows, breaks_quiet, breaks_nothing, name_grows, name_names, TyvarsIn, tyvars_on, Ends, ends_back, Done, done_same, done_so, done_both, done_behind, done_before}
-use Rattle.expansion_laws.proofs.Joined.{one_function, join, join_patterns, join_rules, join_functions, join_bindings, join_declarations, one_expression, app_form, case_form, handle_form, rule_form, binding_form, con_form}
-use Rattle.expansion_laws.proofs.Derived.{no_doubles, HasBase, record_form, tuple_form, unit_form, if_form, sequence_form, list_form, typed_form, typed_function_form, variable_form, unless_one_pattern_form, nest_form, eta_form, while_form, under, wider_under, function_form}
+use Rattle.expansion_laws.proofs.Growing.{grows_both, breaks_grows, breaks_quiet, breaks_nothing, name_grows, name_names, TyvarsIn, tyvars_on, ends_back, Done, done_same, done_so, done_both, done_behind}
+use Rattle.expansion_laws.proofs.Joined.{one_function, join, join_rules, join_functions, join_bindings, join_declarations, one_expression, app_form, case_form, handle_form, rule_form, binding_form, con_form}
+use Rattle.expansion_laws.proofs.Derived.{no_doubles, record_form, tuple_form, unit_form, if_form, sequence_form, list_form, typed_form, typed_function_form, variable_form, unless_one_pattern_form, nest_form, eta_form, while_form, under, wider_under, function_form}
 use Rattle.expansion_laws.proofs.Kinded as k
 use Rattle.expansion_laws.proofs.Kinded.{Kind, Kinded, Exp, Exps, Rows, Rules, Pat, Ty, Dec, Decs as DecList, ValBind, ValBinds, Clause, Clauses, FunBinds}
-use Rattle.expansion_laws.proofs.TypesDone.{TypeMade, type_made, quiet_both}
-use Rattle.expansion_laws.proofs.PatternsDone.{OptionIn, option_in, refused, names_in, patterns_made, PatDone, PatMakes, SomePatterns, one_label}
-use Rattle.expansion_laws.proofs.DeclarationsDone.{scope_within, scope_wider, scope_bound, bound_env, VarsMade, opens_made, opens_scope, numbers_in, DecsIn, DecsDone, type_dec_done, datatype_dec_done, exception_dec_done, idents_grows, idents_quiet, names_quiet}
-use Rattle.expansion_laws.proofs.NamesDone.{Binds, rec_count, rec_names_done, annotations_done, arguments_done, function_some, Some_, new_names_grow, new_names_are, function_of, function_same, fun_count, binds_functions_done, names_behind}
+use Rattle.expansion_laws.proofs.TypesDone.{type_made, quiet_both}
+use Rattle.expansion_laws.proofs.PatternsDone.{OptionIn, option_in, refused, names_in, patterns_made, PatMakes, one_label}
+use Rattle.expansion_laws.proofs.DeclarationsDone.{scope_within, scope_wider, scope_bound, bound_env, opens_made, opens_scope, numbers_in, DecsIn, DecsDone, type_dec_done, datatype_dec_done, exception_dec_done, idents_grows, idents_quiet, names_quiet}
+use Rattle.expansion_laws.proofs.NamesDone.{rec_count, rec_names_done, annotations_done, arguments_done, function_some, new_names_grow, new_names_are, function_of, function_same, fun_count, binds_functions_done}
 
 abbrev pub ForestDone : Sizes → Scope → Made → Forest × Made → Part → Type 0
 ForestDone z s m r q = Done z s m r.1 (λ g. Is z g m r.1 q r.0)
@@ -148,21 +145,27 @@ module _ (z : Sizes) (s : Scope) where
       let k = (breaks rs m).1 in
       done_behind v (breaks_grows rs m) (d k)
       (λ e g x. record_form p (map (λ l. l.0) labs) (no_doubles [] labs (breaks_nothing rs m e.kept))
-        (subst (λ j. Is z g m (q k).1 (f.expressions j) (q k).0) (sym (length-map labs (λ l. l.0))) (before (breaks_quiet rs m) x)))
+      (subst (λ j. Is z g m (q k).1 (f.expressions j) (q k).0) (sym (length-map labs (λ l. l.0))) (before (breaks_quiet rs m) x)))
 
   typed_exp_done : (p : Place) (t : Term) (q : Makes Forest) → Kinded z.texts Ty t → ForestMakes z s q (f.expressions 1) → ForestMakes z s (◌>>=◌ (type_of s t) (λ ty. ◌>>=◌ q (λ x. gives (form.typed_node p (ty ∷ []) x)))) (f.expressions 1)
   typed_exp_done p t q h d m v =
       let y = type_made s t h m v in
       let x = d (type_of s t m).1 (tyvars_on s.tyvars y.grows v) in
-      record { grows = grows_both y.grows x.grows; says = λ e g i. let b = ends_back x.grows e in
-        typed_form p ((type_of s t m).0 ∷ []) ((let a = y.number in let c = b.types in omega (arith, a, c)), tt) (before y.quiet (x.says e g i)) }
+      record {
+        grows = grows_both y.grows x.grows;
+        says = λ e g i. let b = ends_back x.grows e in
+            typed_form p ((type_of s t m).0 ∷ []) ((let a = y.number in let c = b.types in omega (arith, a, c)), tt) (before y.quiet (x.says e g i));
+      }
 
   typed_fn_done : (p : Place) (t : Term) (q : Makes Forest) → Kinded z.texts Ty t → ForestMakes z s q (f.functions 1) → ForestMakes z s (◌>>=◌ (type_of s t) (λ ty. ◌>>=◌ q (λ x. gives (form.typed_node p (ty ∷ []) x)))) (f.functions 1)
   typed_fn_done p t q h d m v =
       let y = type_made s t h m v in
       let x = d (type_of s t m).1 (tyvars_on s.tyvars y.grows v) in
-      record { grows = grows_both y.grows x.grows; says = λ e g i. let b = ends_back x.grows e in
-        typed_function_form p ((type_of s t m).0 ∷ []) ((let a = y.number in let c = b.types in omega (arith, a, c)), tt) (before y.quiet (x.says e g i)) }
+      record {
+        grows = grows_both y.grows x.grows;
+        says = λ e g i. let b = ends_back x.grows e in
+            typed_function_form p ((type_of s t m).0 ∷ []) ((let a = y.number in let c = b.types in omega (arith, a, c)), tt) (before y.quiet (x.says e g i));
+      }
 
   if_done : (p : Place) (q u w : Makes Forest) → ForestMakes z s q (f.expressions 1) → ForestMakes z s u (f.expressions 1) → ForestMakes z s w (f.expressions 1)
       → ForestMakes z s (◌>>=◌ q (λ x. ◌>>=◌ u (λ y. ◌>>=◌ w (λ o. gives (form.if_node p x y o))))) (f.expressions 1)
@@ -186,9 +189,12 @@ module _ (z : Sizes) (s : Scope) where
       let v' = length m.names in
       let k = (new_name (codes "v") m).1 in
       let d = two_done v (a k v) (b (q k).1) in
-      record { grows = grows_both (name_grows (codes "v") m) d.grows; says = λ e g i.
-        let r = d.says e (with_vars (v' ∷ []) g) (scope_wider (wider_vars (v' ∷ []) g) i) in
-        while_form p v' i.base (name_names (codes "v") m) r.0 r.1 }
+      record {
+        grows = grows_both (name_grows (codes "v") m) d.grows;
+        says = λ e g i.
+            let r = d.says e (with_vars (v' ∷ []) g) (scope_wider (wider_vars (v' ∷ []) g) i) in
+            while_form p v' i.base (name_names (codes "v") m) r.0 r.1;
+      }
 
   handle_done : (p : Place) (q u : Makes Forest) → ForestMakes z s q (f.expressions 1) → ForestMakes z s u f.rules → ForestMakes z s (◌>>=◌ (both q u) (λ x. gives (grown (bare.Handle 0 []) p x))) (f.expressions 1)
   handle_done p q u a b m v = done_both v (a m v) (b (q m).1) (λ g x y. handle_form p x y)
@@ -214,9 +220,12 @@ module _ (z : Sizes) (s : Scope) where
       let d = a m v in
       let gk = grows_both d.grows (idents_grows idents x.1) in
       let e = b (env_of x.0.vars) k (tyvars_on s.tyvars gk v) in
-      record { grows = grows_both gk e.grows; says = λ r g i.
-        let rk = ends_back e.grows r in
-        rule_form (names_in x.0.vars) (d.says (ends_back (idents_grows idents x.1) rk) g i) (before (idents_quiet idents x.1) (e.says r (with_vars (names_in x.0.vars) g) (scope_bound x.0.vars i))) }
+      record {
+        grows = grows_both gk e.grows;
+        says = λ r g i.
+            let rk = ends_back e.grows r in
+            rule_form (names_in x.0.vars) (d.says (ends_back (idents_grows idents x.1) rk) g i) (before (idents_quiet idents x.1) (e.says r (with_vars (names_in x.0.vars) g) (scope_bound x.0.vars i)));
+      }
 
 -- ---- Declarations of values
 
@@ -292,27 +301,30 @@ val_done z s p vs b h d m v =
     let v3 = tyvars_on s1.tyvars (grows_both rd.grows gk) v2 in
     let y = rec_rights false s2 b k in
     let yd = d.rights false s2 k v3 in
-    record { grows = grows_both od.grows (grows_both xd.grows (grows_both rd.grows (grows_both gk yd.grows))); says = λ e g i.
-      let ek = ends_back yd.grows e in
-      let er = ends_back gk ek in
-      let ex = ends_back rd.grows er in
-      let eo = ends_back xd.grows ex in
-      let i1 : ScopeIn g s1 = record { values = i.values; base = i.base } in
-      let xs = xd.says ex g i1 in
-      let g1 = with_vars (names_in x.0.vars) g in
-      let i2 = scope_wider (wider_vars (names_in x.0.vars) g) i1 in
-      let ok = numbers_in z.tyvars eo.tyvars od in
-      let one = before od.quiet (plain_dec_form p (numbers_of o.0) ok xs.1) in
-      let many = rd.many_are er.kept in
-      let count : rec_count false b ≡ length (names_in r.0) = sym (length-map r.0 (λ w. w.name) ∙ many) in
-      let fs = yd.says e (with_vars (names_in r.0) g1) (scope_bound r.0 i2) in
-      let two = rec_dec_form p (numbers_of o.0) r.0 ok (names_quiet (rd.says er.kept) (idents_quiet idents r.1)) (subst (λ j. Is z (with_vars (names_in r.0) g1) k y.1 (f.functions j) y.0) count fs) in
-      record {
-        after = with_vars (names_in r.0) g1;
-        is = join_declarations one two;
-        env = env_wider (swap_wider x.0.vars r.0 g) (env_of (x.0.vars ++ r.0)).values (bound_env g (x.0.vars ++ r.0));
-        wider = wider_both (wider_vars (names_in x.0.vars) g) (wider_vars (names_in r.0) g1);
-      } }
+    record {
+      grows = grows_both od.grows (grows_both xd.grows (grows_both rd.grows (grows_both gk yd.grows)));
+      says = λ e g i.
+          let ek = ends_back yd.grows e in
+          let er = ends_back gk ek in
+          let ex = ends_back rd.grows er in
+          let eo = ends_back xd.grows ex in
+          let i1 : ScopeIn g s1 = record { values = i.values; base = i.base } in
+          let xs = xd.says ex g i1 in
+          let g1 = with_vars (names_in x.0.vars) g in
+          let i2 = scope_wider (wider_vars (names_in x.0.vars) g) i1 in
+          let ok = numbers_in z.tyvars eo.tyvars od in
+          let one = before od.quiet (plain_dec_form p (numbers_of o.0) ok xs.1) in
+          let many = rd.many_are er.kept in
+          let count : rec_count false b ≡ length (names_in r.0) = sym (length-map r.0 (λ w. w.name) ∙ many) in
+          let fs = yd.says e (with_vars (names_in r.0) g1) (scope_bound r.0 i2) in
+          let two = rec_dec_form p (numbers_of o.0) r.0 ok (names_quiet (rd.says er.kept) (idents_quiet idents r.1)) (subst (λ j. Is z (with_vars (names_in r.0) g1) k y.1 (f.functions j) y.0) count fs) in
+          record {
+            after = with_vars (names_in r.0) g1;
+            is = join_declarations one two;
+            env = env_wider (swap_wider x.0.vars r.0 g) (env_of (x.0.vars ++ r.0)).values (bound_env g (x.0.vars ++ r.0));
+            wider = wider_both (wider_vars (names_in x.0.vars) g) (wider_vars (names_in r.0) g1);
+          };
+    }
 
 fun_done : (z : Sizes) (s : Scope) (p : Place) (vs b : Term) → Kinded z.texts FunBinds b → ((s : Scope) → ForestMakes z s (clauses.function b (functions s b)) (f.functions (fun_count b))) → (m : Made) → TyvarsIn s m → DecsDone z s m (decs s (two node.Fun p vs b) m)
 fun_done z s p vs b h d m v =
@@ -329,29 +341,32 @@ fun_done z s p vs b h d m v =
     let v3 = tyvars_on s1.tyvars (grows_both rd.grows gk) v1 in
     let y = clauses.function b (functions s2 b) k in
     let yd = d s2 k v3 in
-    record { grows = grows_both od.grows (grows_both rd.grows (grows_both gk yd.grows)); says = λ e g i.
-      let ek = ends_back yd.grows e in
-      let er = ends_back gk ek in
-      let eo = ends_back rd.grows er in
-      let i1 : ScopeIn g s1 = record { values = i.values; base = i.base } in
-      let ok = numbers_in z.tyvars eo.tyvars od in
-      let many = rd.many_are er.kept in
-      let count : fun_count b ≡ length (names_in r.0) = sym (length-map r.0 (λ w. w.name) ∙ many) in
-      let fs = yd.says e (with_vars (names_in r.0) g) (scope_bound r.0 i1) in
-      let two = rec_dec_form p (numbers_of o.0) r.0 ok (names_quiet (rd.says er.kept) (idents_quiet idents r.1)) (subst (λ j. Is z (with_vars (names_in r.0) g) k y.1 (f.functions j) y.0) count fs) in
-      record {
-        after = with_vars (names_in r.0) g;
-        is = before od.quiet two;
-        env = bound_env g r.0;
-        wider = wider_vars (names_in r.0) g;
-      } }
+    record {
+      grows = grows_both od.grows (grows_both rd.grows (grows_both gk yd.grows));
+      says = λ e g i.
+          let ek = ends_back yd.grows e in
+          let er = ends_back gk ek in
+          let eo = ends_back rd.grows er in
+          let i1 : ScopeIn g s1 = record { values = i.values; base = i.base } in
+          let ok = numbers_in z.tyvars eo.tyvars od in
+          let many = rd.many_are er.kept in
+          let count : fun_count b ≡ length (names_in r.0) = sym (length-map r.0 (λ w. w.name) ∙ many) in
+          let fs = yd.says e (with_vars (names_in r.0) g) (scope_bound r.0 i1) in
+          let two = rec_dec_form p (numbers_of o.0) r.0 ok (names_quiet (rd.says er.kept) (idents_quiet idents r.1)) (subst (λ j. Is z (with_vars (names_in r.0) g) k y.1 (f.functions j) y.0) count fs) in
+          record {
+            after = with_vars (names_in r.0) g;
+            is = before od.quiet two;
+            env = bound_env g r.0;
+            wider = wider_vars (names_in r.0) g;
+          };
+    }
 
 -- ---- Bindings
 
 bind_done : (z : Sizes) (p : Place) (q a : Term) → Kinded z.texts Pat q → ExpMade z a → BindMade z (two node.ValBind p q a)
 bind_done z p q a h d = record {
   plain = λ s m v. let x = patterns s q m in
-    done_both v (patterns_made z Pat s q h m v) (d.is elsewhere s x.1) (λ g i j. (1, subst (λ l. Is z g m (expressions elsewhere s a x.1).1 (bindings 1 l) (x.0.forest & (expressions elsewhere s a x.1).0)) (append-nil (names_in x.0.vars)) (binding_form (names_in x.0.vars) i j)));
+      done_both v (patterns_made z Pat s q h m v) (d.is elsewhere s x.1) (λ g i j. (1, subst (λ l. Is z g m (expressions elsewhere s a x.1).1 (bindings 1 l) (x.0.forest & (expressions elsewhere s a x.1).0)) (append-nil (names_in x.0.vars)) (binding_form (names_in x.0.vars) i j)));
   rights = λ inside s m v. right inside s m v;
 }
   where
@@ -364,11 +379,14 @@ bind_done z p q a h d = record {
         let t = annotations_done s q h k v in
         let w = tyvars_on s.tyvars t.grows v in
         let x = d.is elsewhere s ts.1 w in
-        record { grows = grows_both (breaks_grows rs m) (grows_both t.grows x.grows); says = λ e g i.
-          let b = ends_back x.grows e in
-          let c = ends_back t.grows b in
-          typed_function_form (place_at a) ts.0 (in_all ts.0 b.types t.all)
-          (before (quiet_both (breaks_quiet rs m) t.quiet) ((d.function (is_fn_there (breaks_nothing rs m c.kept)) s ts.1 w).says e g i)) }
+        record {
+          grows = grows_both (breaks_grows rs m) (grows_both t.grows x.grows);
+          says = λ e g i.
+              let b = ends_back x.grows e in
+              let c = ends_back t.grows b in
+              typed_function_form (place_at a) ts.0 (in_all ts.0 b.types t.all)
+              (before (quiet_both (breaks_quiet rs m) t.quiet) ((d.function (is_fn_there (breaks_nothing rs m c.kept)) s ts.1 w).says e g i));
+        }
       where
         in_all : {i j : ℕ} (xs : List ℕ) → i ≤ j → AllByRecursion (λ x. x < i) xs → AllByRecursion (λ x. x < j) xs
         in_all [] le h = tt
@@ -384,7 +402,7 @@ bind_done z p q a h d = record {
 more_binds_done : (z : Sizes) (p : Place) (a b : Term) → BindMade z a → BindMade z b → BindMade z (two node.MoreValBinds p a b)
 more_binds_done z p a b d e = record {
   plain = λ s m v. let x = plain_bindings s a m in let y = plain_bindings s b x.1 in
-    done_both v (d.plain s m v) (e.plain s x.1) (λ g i j. (i.0 + j.0, subst (λ l. Is z g m y.1 (bindings (i.0 + j.0) l) (x.0.forest & y.0.forest)) (sym (map-append (λ w. w.name) x.0.vars y.0.vars)) (join_bindings i.1 j.1)));
+      done_both v (d.plain s m v) (e.plain s x.1) (λ g i j. (i.0 + j.0, subst (λ l. Is z g m y.1 (bindings (i.0 + j.0) l) (x.0.forest & y.0.forest)) (sym (map-append (λ w. w.name) x.0.vars y.0.vars)) (join_bindings i.1 j.1)));
   rights = right;
 }
   where
@@ -409,10 +427,13 @@ clause_done z p h a c d s m v =
     let b = arguments_done z s h c m v in
     let gk = grows_both b.grows (idents_grows idents x.1) in
     let e = d.is elsewhere (within s (env_of x.0.vars)) k (tyvars_on s.tyvars gk v) in
-    record { grows = grows_both gk e.grows; says = λ r g i.
-      let rk = ends_back e.grows r in
-      let q = b.says (ends_back (idents_grows idents x.1) rk) g i in
-      rule_form (names_in x.0.vars) (unless_one_pattern_form p q.1) (before (idents_quiet idents x.1) (e.says r (with_vars (names_in x.0.vars) g) (scope_bound x.0.vars i))) }
+    record {
+      grows = grows_both gk e.grows;
+      says = λ r g i.
+          let rk = ends_back e.grows r in
+          let q = b.says (ends_back (idents_grows idents x.1) rk) g i in
+          rule_form (names_in x.0.vars) (unless_one_pattern_form p q.1) (before (idents_quiet idents x.1) (e.says r (with_vars (names_in x.0.vars) g) (scope_bound x.0.vars i)));
+    }
 
 typed_clause_done : (z : Sizes) (p : Place) (h t a : Term) → Kinded z.texts k.Head h → Kinded z.texts Ty t → ExpMade z a → (s : Scope) → ForestMakes z s (functions s (three node.TypedClause p h t a)) f.rules
 typed_clause_done z p h t a c u d s m v =
@@ -425,13 +446,16 @@ typed_clause_done z p h t a c u d s m v =
     let y = type_made s t u k (tyvars_on s.tyvars gk v) in
     let gn = grows_both gk y.grows in
     let e = d.is elsewhere (within s (env_of x.0.vars)) n.1 (tyvars_on s.tyvars gn v) in
-    record { grows = grows_both gn e.grows; says = λ r g i.
-      let rn = ends_back e.grows r in
-      let rk = ends_back y.grows rn in
-      let q = b.says (ends_back (idents_grows idents x.1) rk) g i in
-      let le = y.number in let le' = rn.types in
-      rule_form (names_in x.0.vars) (unless_one_pattern_form p q.1)
-        (typed_form (place_at a) (n.0 ∷ []) ((omega (arith, le, le')), tt) (before (quiet_both (idents_quiet idents x.1) y.quiet) (e.says r (with_vars (names_in x.0.vars) g) (scope_bound x.0.vars i)))) }
+    record {
+      grows = grows_both gn e.grows;
+      says = λ r g i.
+          let rn = ends_back e.grows r in
+          let rk = ends_back y.grows rn in
+          let q = b.says (ends_back (idents_grows idents x.1) rk) g i in
+          let le = y.number in let le' = rn.types in
+          rule_form (names_in x.0.vars) (unless_one_pattern_form p q.1)
+          (typed_form (place_at a) (n.0 ∷ []) ((omega (arith, le, le')), tt) (before (quiet_both (idents_quiet idents x.1) y.quiet) (e.says r (with_vars (names_in x.0.vars) g) (scope_bound x.0.vars i))));
+    }
 
 function_of_done : (z : Sizes) (s : Scope) (p : Place) (n j : ℕ) → n ≡ suc j → (q : Makes Forest) → ForestMakes z s q f.rules → ForestMakes z s (function_of n p q) (f.functions 1)
 function_of_done z s p n j e q d = subst (λ i. ForestMakes z s (function_of i p q) (f.functions 1)) (sym e) (λ m v.
@@ -439,8 +463,11 @@ function_of_done z s p n j e q d = subst (λ i. ForestMakes z s (function_of i p
     let vs = new_names text (suc j) m in
     let g0 = new_names_grow text (suc j) m in
     let x = d vs.1 (tyvars_on s.tyvars g0 v) in
-    record { grows = grows_both g0 x.grows; says = λ r g i.
-      function_form p (length m.names) (new_names text j (new_name text m).1).0 g m (new_names_are text (suc j) m) (x.says r (under vs.0 g) (scope_wider (wider_under vs.0 g) i)) })
+    record {
+      grows = grows_both g0 x.grows;
+      says = λ r g i.
+          function_form p (length m.names) (new_names text j (new_name text m).1).0 g m (new_names_are text (suc j) m) (x.says r (under vs.0 g) (scope_wider (wider_under vs.0 g) i));
+    })
 
 one_fun_done : (z : Sizes) (t : Term) → Kinded z.texts Clauses t → ((s : Scope) → ForestMakes z s (functions s t) f.rules) → (s : Scope) → ForestMakes z s (clauses.function t (functions s t)) (f.functions 1)
 one_fun_done z t h d s =
@@ -470,10 +497,13 @@ let_done z p d a x y h s m v =
     let r = decs s d m in
     let rd = x s m v in
     let yd = y (within s r.0.env) r.1 (tyvars_on s.tyvars rd.grows v) in
-    record { grows = grows_both rd.grows yd.grows; says = λ e g i.
-      let o = rd.says (ends_back yd.grows e) g i in
-      let u = yd.says e o.after (scope_within r.0.env o.wider o.env i) in
-      nest_form p o.is (sequence_form p u.0 u.1) }
+    record {
+      grows = grows_both rd.grows yd.grows;
+      says = λ e g i.
+          let o = rd.says (ends_back yd.grows e) g i in
+          let u = yd.says e o.after (scope_within r.0.env o.wider o.env i) in
+          nest_form p o.is (sequence_form p u.0 u.1);
+    }
 
 more_decs_done : (z : Sizes) (p : Place) (a b : Term) → ((s : Scope) (m : Made) → TyvarsIn s m → DecsDone z s m (decs s a m)) → ((s : Scope) (m : Made) → TyvarsIn s m → DecsDone z s m (decs s b m)) → (s : Scope) (m : Made) → TyvarsIn s m → DecsDone z s m (decs s (two node.MoreDecs p a b) m)
 more_decs_done z p a b x y s m v =
@@ -481,20 +511,26 @@ more_decs_done z p a b x y s m v =
     let rd = x s m v in
     let u = decs (within s r.0.env) b r.1 in
     let ud = y (within s r.0.env) r.1 (tyvars_on s.tyvars rd.grows v) in
-    record { grows = grows_both rd.grows ud.grows; says = λ e g i.
-      let o = rd.says (ends_back ud.grows e) g i in
-      let q = ud.says e o.after (scope_within r.0.env o.wider o.env i) in
-      record { after = q.after; is = join_declarations o.is q.is; env = env_both q.after u.0.env.values r.0.env.values q.env (env_wider q.wider r.0.env.values o.env); wider = wider_both o.wider q.wider } }
+    record {
+      grows = grows_both rd.grows ud.grows;
+      says = λ e g i.
+          let o = rd.says (ends_back ud.grows e) g i in
+          let q = ud.says e o.after (scope_within r.0.env o.wider o.env i) in
+          record { after = q.after; is = join_declarations o.is q.is; env = env_both q.after u.0.env.values r.0.env.values q.env (env_wider q.wider r.0.env.values o.env); wider = wider_both o.wider q.wider };
+    }
 
 local_done : (z : Sizes) (p : Place) (a b : Term) → ((s : Scope) (m : Made) → TyvarsIn s m → DecsDone z s m (decs s a m)) → ((s : Scope) (m : Made) → TyvarsIn s m → DecsDone z s m (decs s b m)) → (s : Scope) (m : Made) → TyvarsIn s m → DecsDone z s m (decs s (two node.Local p a b) m)
 local_done z p a b x y s m v =
     let r = decs s a m in
     let rd = x s m v in
     let ud = y (within s r.0.env) r.1 (tyvars_on s.tyvars rd.grows v) in
-    record { grows = grows_both rd.grows ud.grows; says = λ e g i.
-      let o = rd.says (ends_back ud.grows e) g i in
-      let q = ud.says e o.after (scope_within r.0.env o.wider o.env i) in
-      record { after = q.after; is = join_declarations o.is q.is; env = q.env; wider = wider_both o.wider q.wider } }
+    record {
+      grows = grows_both rd.grows ud.grows;
+      says = λ e g i.
+          let o = rd.says (ends_back ud.grows e) g i in
+          let q = ud.says e o.after (scope_within r.0.env o.wider o.env i) in
+          record { after = q.after; is = join_declarations o.is q.is; env = q.env; wider = wider_both o.wider q.wider };
+    }
 
 nothing_done : (z : Sizes) (s : Scope) (m : Made) → Done z s m m (DecsIn z m m none [])
 nothing_done z s m = done_same (λ g i. record { after = g; is = f.no_declaration; env = tt; wider = wider_same g })

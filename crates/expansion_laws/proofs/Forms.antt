@@ -1,6 +1,5 @@
 -- What forests an expansion makes: from which count of names and type names to which, in which context, and in which part.
-use Rattle.std.proofs.Common.{◌≡◌, ℕ, zero, suc, ◌<◌, ◌+◌, true, false, ℤ, List, [], ◌∷◌, ◌++◌, map, length, refl, sym, ap, ◌∙◌, Option, Some, None}
-use Rattle.std.specs.Prelude.{codes, Bool}
+use Rattle.std.proofs.Common.{◌≡◌, ℕ, suc, ◌<◌, ◌+◌, false, ℤ, List, [], ◌∷◌, ◌++◌, map, length, Option, Some, None}
 use Rattle.std.specs.List.{AllByRecursion}
 use Rattle.smlc_base.specs.declared.place.Place.{Place}
 use Rattle.smlc_base.specs.declared.primitive.Primitive.{Primitive}
@@ -9,7 +8,6 @@ use Rattle.sml_tree.specs.declared.bare.Con.TheVariants as con
 use Rattle.sml_tree.specs.declared.bare.Lab.{Lab}
 use Rattle.sml_tree.specs.declared.bare.Node.{Node}
 use Rattle.sml_tree.specs.declared.bare.Node.TheVariants as node
-use Rattle.sml_tree.specs.declared.bare.RecBinding.{RecBinding}
 use Rattle.sml_tree.specs.declared.bare.TypeBinding.{TypeBinding}
 use Rattle.sml_tree.specs.declared.bare.DatBinding.{DatBinding}
 use Rattle.sml_tree.specs.declared.bare.ConBinding.{ConBinding}

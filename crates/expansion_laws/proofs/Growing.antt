@@ -1,14 +1,14 @@
 -- What is made only grows, and a refusal stays.
-use Rattle.std.proofs.Common.{◌≡◌, ℕ, zero, suc, ◌<◌, ◌≤◌, ◌+◌, ◌==◌, ◌&&◌, true, false, List, [], ◌∷◌, ◌++◌, map, length, refl, sym, ap, subst, ◌∙◌, Option, Some, None, arith}
-use Rattle.std.specs.Prelude.{slice_get, slice_index, fold}
+use Rattle.std.proofs.Common.{◌≡◌, ℕ, suc, ◌<◌, ◌≤◌, ◌+◌, ◌==◌, ◌&&◌, List, [], ◌∷◌, ◌++◌, length, refl, subst, Option, Some, None, arith}
+use Rattle.std.specs.Prelude.{slice_index, fold}
 use Rattle.std.specs.List.{AllByRecursion}
 use Rattle.std.proofs.lemmas.List.{length-append}
 use Rattle.smlc_base.specs.declared.refusal.Refusal.{Refusal}
 use Rattle.sml_tree.specs.declared.bare.TypeExp.{TypeExp}
 use Rattle.sml_tree.specs.declared.bare.TypeExp.TheVariants as type
 use Rattle.sml_expansion.specs.declared.made.Made.{Made}
-use Rattle.sml_expansion.specs.Makings.{Makes, breaks, new_name, new_type, new_tyvar, new_type_name, new_abbreviation}
-use Rattle.sml_expansion.specs.Refusals.{kept, refusal_before}
+use Rattle.sml_expansion.specs.Makings.{breaks, new_name, new_type, new_tyvar}
+use Rattle.sml_expansion.specs.Refusals.{kept}
 use Rattle.sml_expansion.specs.Scopes.{Scope}
 use Rattle.sml_tree.proofs.Unfold.{all_map}
 use Rattle.expansion_laws.proofs.Contexts.{Context, ScopeIn}

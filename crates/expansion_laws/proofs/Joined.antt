@@ -1,20 +1,14 @@
 -- Lists of trees one behind the other, and the derived forms over them.
-use Rattle.std.proofs.Common.{◌≡◌, ℕ, zero, suc, ◌<◌, ◌≤◌, ◌+◌, true, false, List, [], ◌∷◌, ◌++◌, map, length, refl, sym, ap, subst, ◌∙◌, Option, Some, None, arith}
-use Rattle.std.specs.Prelude.{Bool, pos}
-use Rattle.std.specs.List.{AllByRecursion, list_any}
+use Rattle.std.proofs.Common.{◌≡◌, ℕ, suc, ◌+◌, List, [], ◌++◌, refl, sym, ap, subst, ◌∙◌, arith}
 use Rattle.std.proofs.lemmas.List.{append_assoc, append-nil}
 use Rattle.smlc_base.specs.declared.place.Place.{Place}
 use Rattle.sml_tree.specs.declared.bare.Con.{Con}
-use Rattle.sml_tree.specs.declared.bare.Con.TheVariants as con
-use Rattle.sml_tree.specs.declared.bare.Lab.{Lab}
-use Rattle.sml_tree.specs.declared.bare.Lab.TheVariants.{Num}
 use Rattle.sml_tree.specs.declared.bare.Node.{Node}
 use Rattle.sml_tree.specs.declared.bare.Node.TheVariants as node
 use Rattle.sml_expansion.specs.declared.made.Made.{Made}
 use Rattle.sml_expansion.specs.Forests.{Forest, none, tree, grown, count, ◌&◌}
 use Rattle.sml_expansion.specs.Bare as bare
-use Rattle.sml_expansion.specs.Labels.{numbers, lab_eq}
-use Rattle.expansion_laws.proofs.Contexts.{Among, Context, with_vars, with_cons, ConIn, base_cons}
+use Rattle.expansion_laws.proofs.Contexts.{Context, with_vars, ConIn}
 use Rattle.expansion_laws.proofs.Forms as f
 use Rattle.expansion_laws.proofs.Forms.{Sizes, Quiet, Names, LabelsOnce, Part, Is, expression, function, pattern, declaration, expressions, functions, patterns, rules, bindings, declarations, before, after}
 

@@ -1,6 +1,6 @@
 -- What an identifier stands for is in scope.
-use Rattle.std.proofs.Common.{◌≡◌, ℕ, true, false, List, [], ◌∷◌, ◌++◌, map, reverse, refl, sym, subst, ◌⊎◌, inl, inr, Option, Some, None, if◌then◌else◌}
-use Rattle.std.specs.Prelude.{Bool, nat_eq, bytes_eq, unwrap_or}
+use Rattle.std.proofs.Common.{◌≡◌, ℕ, true, false, List, [], ◌∷◌, refl, subst, inl, inr, Option, Some, None, if◌then◌else◌}
+use Rattle.std.specs.Prelude.{Bool, nat_eq, bytes_eq}
 use Rattle.std.specs.List.{AllByRecursion}
 use Rattle.sml_tree.specs.declared.bare.Con.{Con}
 use Rattle.sml_tree.specs.declared.bare.Con.TheVariants as con
@@ -9,9 +9,9 @@ use Rattle.sml_prelude.specs.declared.values.Value.TheVariants as base
 use Rattle.sml_prelude.specs.Entries.{first_of}
 use Rattle.sml_prelude.specs.Values.{values, value_of}
 use Rattle.sml_expansion.specs.declared.meaning.Meaning.{Meaning}
-use Rattle.sml_expansion.specs.declared.meaning.Meaning.TheVariants.{Variable, Constructor, Builtin}
+use Rattle.sml_expansion.specs.declared.meaning.Meaning.TheVariants.{Constructor, Builtin}
 use Rattle.sml_expansion.specs.Scoped.{latest}
-use Rattle.sml_expansion.specs.Scopes.{Scope, Env, meaning_of, or_else, base_value, base_meaning, text_of}
+use Rattle.sml_expansion.specs.Scopes.{Scope, meaning_of, or_else, base_value, base_meaning, text_of}
 use Rattle.expansion_laws.proofs.Contexts.{Among, Context, ConIn, MeaningIn, EnvIn, ScopeIn, base_cons}
 
 -- constructors of the library

@@ -1,36 +1,30 @@
 -- Names of recursive bindings and of functions.
-use Rattle.std.proofs.Common.{◌≡◌, ℕ, zero, suc, ◌<◌, ◌≤◌, ◌+◌, ◌==◌, true, false, List, [], ◌∷◌, ◌++◌, map, reverse, length, refl, sym, ap, subst, ◌∙◌, Option, Some, None, arith, inl, inr, if◌then◌else◌}
+use Rattle.std.proofs.Common.{◌≡◌, ℕ, zero, suc, ◌<◌, ◌≤◌, ◌+◌, true, false, List, [], ◌∷◌, ◌++◌, length, refl, sym, subst, ◌∙◌, None, arith, if◌then◌else◌}
 use Rattle.std.specs.Prelude.{Bool, nat_eq, codes}
 use Rattle.std.specs.List.{AllByRecursion}
-use Rattle.std.proofs.lemmas.List.{length-append, length-map, map-append}
+use Rattle.std.proofs.lemmas.List.{length-append, map-append}
 use Rattle.smlc_base.specs.declared.place.Place.{Place}
 use Rattle.smlc_base.specs.declared.refusal.Refusal.{Refusal}
 use Rattle.smlc_base.specs.declared.refusal.Refusal.TheVariants as refusal
 use Rattle.sml_tree.specs.declared.tree_node.TreeNode.TheVariants as node
-use Rattle.sml_tree.specs.declared.bare.RecBinding.{RecBinding}
 use Rattle.sml_expansion.specs.declared.made.Made.{Made}
-use Rattle.sml_expansion.specs.declared.meaning.Meaning.{Meaning}
 use Rattle.sml_expansion.specs.declared.scope.Ident.{Ident}
 use Rattle.sml_expansion.specs.declared.scope.Bound.{Bound}
-use Rattle.sml_expansion.specs.Forests.{Forest, none, tree, grown, count, ◌&◌}
-use Rattle.sml_expansion.specs.Terms.{Term, leaf, one, two, three, four, place_at}
+use Rattle.sml_expansion.specs.Forests.{Forest}
+use Rattle.sml_expansion.specs.Terms.{Term, one, two, place_at}
 use Rattle.sml_expansion.specs.Makings.{Makes, breaks, gives, new_name, new_names, ◌>>=◌, ◌>>◌}
-use Rattle.sml_expansion.specs.Scopes.{Scope, Env, ident, text_of, meaning_of}
-use Rattle.sml_expansion.specs.Types.{type_of}
+use Rattle.sml_expansion.specs.Scopes.{Scope, ident, meaning_of}
 use Rattle.sml_expansion.specs.Bare as bare
-use Rattle.sml_expansion.specs.Patterns.{binds, no_long, patterns, Pattern, beside}
+use Rattle.sml_expansion.specs.Patterns.{binds, no_long, patterns, beside}
 use Rattle.sml_expansion.specs.Bindings.{rec_ident, rec_name, rec_names, annotations}
 use Rattle.sml_expansion.specs.Clauses as clauses
 use Rattle.sml_expansion.specs.Clauses.{head, first_clause, name_of, patterns_in, arguments_in, arguments, infix_argument, name_refusals, clause_refusals, function_name, binds_function, binds_functions}
-use Rattle.expansion_laws.proofs.Contexts.{Context, ScopeIn}
-use Rattle.expansion_laws.proofs.Forms as f
-use Rattle.expansion_laws.proofs.Forms.{Sizes, Quiet, Names, From, Is}
-use Rattle.expansion_laws.proofs.Growing.{Grows, grows_same, grows_both, breaks_grows, breaks_quiet, breaks_nothing, name_grows, name_names, TyvarsIn, tyvars_on, Ends, ends_back, Done, done_same, done_so}
+use Rattle.expansion_laws.proofs.Forms.{Sizes, Quiet, Names, From}
+use Rattle.expansion_laws.proofs.Growing.{Grows, grows_same, grows_both, breaks_grows, breaks_quiet, breaks_nothing, name_grows, name_names, TyvarsIn, tyvars_on, Done}
 use Rattle.expansion_laws.proofs.Kinded as k
 use Rattle.expansion_laws.proofs.Kinded.{Kind, Kinded, Pat, Pats, Ty, ValBind, ValBinds, Clause, Clauses, FunBinds, Head}
-use Rattle.expansion_laws.proofs.TypesDone.{Typed, TypeMade, type_made, quiet_same, quiet_both, all_both}
-use Rattle.expansion_laws.proofs.PatternsDone.{names_in, refused, binds_grows, binds_names, patterns_made, PatDone, PatMakes, SomePatterns, first_and_others, tuple_done, one_done}
-use Rattle.expansion_laws.proofs.DeclarationsDone.{names_quiet}
+use Rattle.expansion_laws.proofs.TypesDone.{Typed, type_made, quiet_same, quiet_both}
+use Rattle.expansion_laws.proofs.PatternsDone.{names_in, refused, binds_grows, binds_names, patterns_made, PatMakes, SomePatterns, first_and_others, tuple_done, one_done}
 
 -- ---- Names one behind the other
 
@@ -180,25 +174,25 @@ arguments_done z s t (k.paren_head_args p {a} {b} {ps} w h i j) m v =
     first_and_others z s m (infix_argument s a b) (patterns s ps) v (infix_argument_done z s a b h i m v) (patterns_made z Pats s ps j (infix_argument s a b m).1)
 
 -- a function has an argument
-pub record Some_ (n : ℕ) : Type 0 where
+pub record AtLeastOne (n : ℕ) : Type 0 where
   pub less : ℕ
   pub same : n ≡ suc less
 
-patterns_some : (t : Term) → Some_ (patterns_in t)
+patterns_some : (t : Term) → AtLeastOne (patterns_in t)
 patterns_some (two node.MoreAtpats p a b) = let x = patterns_some a in let e = x.same in record { less = x.less + patterns_in b; same = omega (arith, e) }
 patterns_some t = record { less = 0; same = refl }
 
-head_some : {texts : ℕ} (t : Term) → Kinded texts Head t → Some_ (arguments_in t)
+head_some : {texts : ℕ} (t : Term) → Kinded texts Head t → AtLeastOne (arguments_in t)
 head_some t (k.head p w {ps} h) = patterns_some ps
 head_some t (k.infix_head p w h i) = record { less = 0; same = refl }
 head_some t (k.paren_head p w h i) = record { less = 0; same = refl }
 head_some t (k.paren_head_args p {ps = ps} w h i j) = record { less = patterns_in ps; same = omega arith }
 
-clause_some : {texts : ℕ} (t : Term) → Kinded texts Clause t → Some_ (arguments_in (head (first_clause t)))
+clause_some : {texts : ℕ} (t : Term) → Kinded texts Clause t → AtLeastOne (arguments_in (head (first_clause t)))
 clause_some t (k.clause p {h} i j) = head_some h i
 clause_some t (k.typed_clause p {h} i j l) = head_some h i
 
-pub function_some : {texts : ℕ} (t : Term) → Kinded texts Clauses t → Some_ (arguments_in (head (first_clause t)))
+pub function_some : {texts : ℕ} (t : Term) → Kinded texts Clauses t → AtLeastOne (arguments_in (head (first_clause t)))
 function_some t (k.one_clause h) = clause_some t h
 function_some t (k.more_clauses p {a} (k.clause q {h} i j) l) = head_some h i
 function_some t (k.more_clauses p {a} (k.typed_clause q {h} i j o) l) = head_some h i

@@ -1,8 +1,8 @@
 -- A program ends once, and its declarations stand in one nest.
-use Rattle.std.proofs.Common.{◌≡◌, ℕ, zero, suc, ◌<◌, ◌≤◌, ◌+◌, ◌&&◌, ◌||◌, true, false, List, [], ◌∷◌, ◌++◌, map, length, get_or, refl, sym, ap, subst, ◌∙◌, Option, Some, None, arith, if◌then◌else◌, eq-eqb, inl, inr}
+use Rattle.std.proofs.Common.{◌≡◌, ℕ, suc, ◌≤◌, ◌+◌, ◌&&◌, ◌||◌, true, false, List, [], ◌∷◌, ◌++◌, length, get_or, refl, sym, ap, subst, ◌∙◌, Some, arith, if◌then◌else◌, eq-eqb, inl, inr}
 use Rattle.std.specs.Prelude.{slice_get, Bool, flat_map, filter, fold, cond, count_by, nat_eq}
 use Rattle.std.specs.List.{AllByRecursion}
-use Rattle.std.proofs.lemmas.List.{length-append, append-nil}
+use Rattle.std.proofs.lemmas.List.{append-nil}
 use Rattle.smlc_base.specs.declared.place.Place.{Place}
 use Rattle.sml_tree.specs.declared.bare.Node.{Node}
 use Rattle.sml_tree.specs.declared.bare.Node.TheVariants as node
@@ -12,7 +12,7 @@ use Rattle.sml_tree.specs.IsBare as spec
 use Rattle.sml_tree.specs.IsBare.{is_finish, nest_of, lets_of, dec_at, IsAscending}
 use Rattle.sml_tree.proofs.Unfold.{by_parts}
 use Rattle.sml_expansion.specs.declared.made.Made.{Made}
-use Rattle.sml_expansion.specs.Forests.{Forest, none, tree, grown, size, count, roots, numbered, with_parts, ◌&◌}
+use Rattle.sml_expansion.specs.Forests.{Forest, none, tree, grown, size, roots, numbered, with_parts}
 use Rattle.sml_expansion.specs.Bare.{nest}
 use Rattle.sml_expansion.specs.Programs as p
 use Rattle.sml_expansion.specs.Programs.{Top, program, nested, outermost, shown_in, all_shown}
@@ -99,7 +99,6 @@ ends_of r t (f.not_exception x e) = λ rs i. refl
 ends_of r t f.program_end = λ rs i. refl
 ends_of r t (f.program_let {h = e} {a = a} {b = b} {p = p} {q = q} {parts = parts} {inner = inner} h i) = λ rs j. ends_tree a p parts (tree b q inner none) (0 ∷ []) (ends_of (f.declaration a e) parts h) (λ l. all_tree fin l b q inner none ∙ append-nil _ ∙ ends_of (f.program b) inner i _ (suc l)) j
 
-
 add_one : (k : ℕ) (xs : List Node) (l : ℕ) → fold (λ a x. a + cond (is_finish x) 1 0) (k + 1) xs ≡ (k + 1) + l → fold (λ a x. a + cond (is_finish x) 1 0) (k + 1) xs ≡ k + suc l
 add_one k xs l e = e ∙ (omega arith)
 
@@ -162,7 +161,7 @@ module _ (nodes : List Node) (num : IsNumbered nodes) where
       ∙ ap (at_node false nest_of (from_parts false nest_of nodes) i) at.0
       ∙ ap (from_parts false nest_of nodes) (second_root (suc i) (nest q rest e) (suc (suc i + size parts)) (rooted_nest q rest e r))
       ∙ (let z : suc (suc i + size parts) ≡ j = omega arith in
-        subst (λ k. from_parts false nest_of nodes k ≡ true) (sym z) (nest_at q rest e j r (subst (λ k. At nodes k (nest q rest e)) z at.1.2) (λ l s a. h l (omega (arith, s)) a)))
+      subst (λ k. from_parts false nest_of nodes k ≡ true) (sym z) (nest_at q rest e j r (subst (λ k. At nodes k (nest q rest e)) z at.1.2) (λ l s a. h l (omega (arith, s)) a)))
 
   pub nest_is : (q : Place) (tops : List Top) (i : ℕ) → At nodes i (program q tops) → from_parts false nest_of nodes i ≡ true
   nest_is q [] i at = by_parts false nest_of (λ x y. x ≡ y) refl nest_parts nodes num i ∙ ap (at_node false nest_of (from_parts false nest_of nodes) i) at.0
@@ -176,7 +175,7 @@ module _ (nodes : List Node) (num : IsNumbered nodes) where
       ∙ ap (at_node [] lets_of (from_parts [] lets_of nodes) i) at.0
       ∙ ap (λ k. i ∷ from_parts [] lets_of nodes k) (second_root (suc i) (nest q rest e) (suc (suc i + size parts)) (rooted_nest q rest e r))
       ∙ ap (λ l. i ∷ l) (let z : suc (suc i + size parts) ≡ j = omega arith in
-        ap (from_parts [] lets_of nodes) z ∙ lets_at q rest e j ls r (subst (λ k. At nodes k (nest q rest e)) z at.1.2) (λ l s a. h l (omega (arith, s)) a))
+      ap (from_parts [] lets_of nodes) z ∙ lets_at q rest e j ls r (subst (λ k. At nodes k (nest q rest e)) z at.1.2) (λ l s a. h l (omega (arith, s)) a))
 
   pub lets_are : (q : Place) (tops : List Top) (i : ℕ) → At nodes i (program q tops) → from_parts [] lets_of nodes i ≡ all_lets i tops
   lets_are q [] i at = by_parts [] lets_of (λ x y. x ≡ y) refl lets_parts nodes num i ∙ ap (at_node [] lets_of (from_parts [] lets_of nodes) i) at.0

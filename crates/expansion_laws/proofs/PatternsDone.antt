@@ -1,36 +1,34 @@
 -- Patterns expand to patterns.
-use Rattle.std.proofs.Common.{◌≡◌, ℕ, zero, suc, ◌<◌, ◌≤◌, ◌+◌, true, false, List, [], ◌∷◌, ◌++◌, map, reverse, length, refl, sym, ap, subst, ◌∙◌, Option, Some, None, arith, inl, inr, if◌then◌else◌}
+use Rattle.std.proofs.Common.{◌≡◌, ℕ, ◌+◌, true, false, List, [], ◌∷◌, ◌++◌, map, length, refl, sym, subst, Option, Some, None, arith, if◌then◌else◌}
 use Rattle.std.specs.Prelude.{Bool}
-use Rattle.std.specs.List.{AllByRecursion}
 use Rattle.std.proofs.lemmas.List.{length-append, length-map, map-append}
 use Rattle.smlc_base.specs.declared.place.Place.{Place}
 use Rattle.smlc_base.specs.declared.refusal.Refusal.{Refusal}
 use Rattle.smlc_base.specs.declared.refusal.Refusal.TheVariants as refusal
-use Rattle.sml_tree.specs.declared.bare.Con.{Con}
 use Rattle.sml_tree.specs.declared.bare.Lab.{Lab}
 use Rattle.sml_expansion.specs.declared.made.Made.{Made}
 use Rattle.sml_expansion.specs.declared.meaning.Meaning.{Meaning}
 use Rattle.sml_expansion.specs.declared.meaning.Meaning.TheVariants.{Variable, Constructor, Builtin}
 use Rattle.sml_expansion.specs.declared.scope.Ident.{Ident}
 use Rattle.sml_expansion.specs.declared.scope.Bound.{Bound}
-use Rattle.sml_expansion.specs.Forests.{Forest, none, tree, grown, count, ◌&◌}
+use Rattle.sml_expansion.specs.Forests.{Forest, ◌&◌}
 use Rattle.sml_expansion.specs.Terms.{Term}
 use Rattle.sml_expansion.specs.Labels.{lab_eq, doubles}
-use Rattle.sml_expansion.specs.Makings.{Makes, breaks, gives, new_name, ◌>>=◌, ◌>>◌}
+use Rattle.sml_expansion.specs.Makings.{Makes, breaks, gives, ◌>>=◌, ◌>>◌}
 use Rattle.sml_expansion.specs.Scopes.{Scope, ident, text_of, meaning_of, is_fixed}
 use Rattle.sml_expansion.specs.Types.{labels, labels_once, type_of}
 use Rattle.sml_expansion.specs.Bare as bare
-use Rattle.sml_expansion.specs.Patterns.{Pattern, plain, beside, under, binds, identifier, applied, layer, layered, typed, under_type, no_long, no_constructor, patterns, vars_once, whole}
-use Rattle.expansion_laws.proofs.Contexts.{Among, Context, with_vars, ConIn, MeaningIn, ScopeIn}
+use Rattle.sml_expansion.specs.Patterns.{Pattern, plain, beside, under, binds, identifier, applied, layer, layered, under_type, no_long, no_constructor, patterns}
+use Rattle.expansion_laws.proofs.Contexts.{Context, MeaningIn, ScopeIn}
 use Rattle.expansion_laws.proofs.Forms as f
 use Rattle.expansion_laws.proofs.Forms.{Sizes, Quiet, Names, LabelsOnce, Is, before, after}
-use Rattle.expansion_laws.proofs.Growing.{Grows, grows_same, grows_both, breaks_grows, breaks_quiet, breaks_nothing, name_grows, name_names, TyvarsIn, tyvars_on, Ends, ends_back, Done, done_same, done_so, done_both, done_behind, done_before}
+use Rattle.expansion_laws.proofs.Growing.{Grows, grows_both, breaks_grows, breaks_quiet, breaks_nothing, name_grows, name_names, TyvarsIn, tyvars_on, ends_back, Done, done_same, done_so, done_both, done_behind, done_before}
 use Rattle.expansion_laws.proofs.Joined.{join_patterns, one_pattern, con_pattern_form}
 use Rattle.expansion_laws.proofs.Derived.{no_doubles, record_pattern_form, tuple_pattern_form, list_pattern_form}
 use Rattle.expansion_laws.proofs.Meanings.{meaning_in}
 use Rattle.expansion_laws.proofs.Kinded as k
 use Rattle.expansion_laws.proofs.Kinded.{Kind, Kinded, Pat, Pats, PatRows, Label, Ty}
-use Rattle.expansion_laws.proofs.TypesDone.{TypeMade, type_made}
+use Rattle.expansion_laws.proofs.TypesDone.{type_made}
 
 abbrev pub names_in : List Bound → List ℕ
 names_in vars = map (λ v. v.name) vars
@@ -97,9 +95,11 @@ module _ (z : Sizes) (s : Scope) where
   under_type_done p t q h d m v =
       let y = type_made s t h m v in
       let x = d (type_of s t m).1 (tyvars_on s.tyvars y.grows v) in
-      record { grows = grows_both y.grows x.grows;
-               says = λ e g i. let b = ends_back x.grows e in
-                 one_pattern p (f.typed_pattern (type_of s t m).0 (let a = y.number in let c = b.types in omega (arith, a, c)) (before y.quiet (x.says e g i))) }
+      record {
+        grows = grows_both y.grows x.grows;
+        says = λ e g i. let b = ends_back x.grows e in
+            one_pattern p (f.typed_pattern (type_of s t m).0 (let a = y.number in let c = b.types in omega (arith, a, c)) (before y.quiet (x.says e g i)));
+      }
 
   two_patterns : {g : Context} {m k n : Made} {i j : ℕ} (x y : Pattern) → Is z g m k (f.patterns i (names_in x.vars)) x.forest → Is z g k n (f.patterns j (names_in y.vars)) y.forest
       → Is z g m n (f.patterns (i + j) (names_in (x.vars ++ y.vars))) (x.forest & y.forest)
@@ -137,7 +137,7 @@ module _ (z : Sizes) (s : Scope) where
       let k = (breaks rs m).1 in
       done_behind v (breaks_grows rs m) (d k)
       (λ e g x. record_pattern_form p (map (λ l. l.0) labs) (no_doubles [] labs (breaks_nothing rs m e.kept))
-        (subst (λ j. Is z g m (q k).1 (f.patterns j (names_in (q k).0.vars)) (q k).0.forest) (sym (length-map labs (λ l. l.0))) (before (breaks_quiet rs m) x)))
+      (subst (λ j. Is z g m (q k).1 (f.patterns j (names_in (q k).0.vars)) (q k).0.forest) (sym (length-map labs (λ l. l.0))) (before (breaks_quiet rs m) x)))
 
   infix_done : (p : Place) (i : Ident) (q u : Makes Pattern) (m : Made) → TyvarsIn s m → PatMakes z s q → PatMakes z s u
       → PatDone z s m (◌>>=◌ q (λ x. ◌>>=◌ u (λ y. applied p i (meaning_of s i.key) (under (bare.tuple_pattern p) (beside x y)))) m)

@@ -1,16 +1,16 @@
 -- Where the trees of a forest stand among numbered nodes.
-use Rattle.std.proofs.Common.{◌≡◌, ℕ, zero, suc, ◌<◌, ◌≤◌, ◌+◌, true, false, List, [], ◌∷◌, ◌++◌, map, length, refl, sym, ap, subst, ◌∙◌, Option, Some, None, arith}
-use Rattle.std.specs.Prelude.{slice_get, Bool}
+use Rattle.std.proofs.Common.{◌≡◌, ℕ, suc, ◌<◌, ◌≤◌, ◌+◌, List, [], ◌∷◌, ◌++◌, length, refl, sym, ap, subst, ◌∙◌, Some, arith}
+use Rattle.std.specs.Prelude.{slice_get}
 use Rattle.std.specs.List.{AllByRecursion}
 use Rattle.std.proofs.lemmas.List.{length-append, append_assoc, append-nil}
 use Rattle.smlc_base.specs.declared.place.Place.{Place}
 use Rattle.sml_tree.specs.declared.bare.Node.{Node}
-use Rattle.sml_tree.specs.BareParts.{node_parts, IsNumbered, at_node, from_parts}
+use Rattle.sml_tree.specs.BareParts.{node_parts, IsNumbered, at_node}
 use Rattle.sml_tree.specs.IsBare as spec
 use Rattle.sml_tree.specs.IsBare.{InRow, IsPreorder, size_of, sum_of}
-use Rattle.sml_tree.proofs.EachNode.{EachFrom, each_node, numbered_by_list, preorder_by_list}
-use Rattle.sml_tree.proofs.Unfold.{by_parts, all_map}
-use Rattle.sml_expansion.specs.Forests.{Forest, none, tree, grown, size, count, roots, numbered, places, with_parts, ◌&◌}
+use Rattle.sml_tree.proofs.EachNode.{EachFrom, numbered_by_list, preorder_by_list}
+use Rattle.sml_tree.proofs.Unfold.{by_parts}
+use Rattle.sml_expansion.specs.Forests.{Forest, none, tree, grown, size, roots, numbered, places, with_parts}
 
 -- the nodes from number i on are those of the forest
 abbrev pub At : List Node → ℕ → Forest → Type 0
@@ -42,14 +42,15 @@ at_cut front (tree n p parts rest) back i e =
     let whole = front ++ (x ∷ ((numbered (suc i) parts ++ numbered j rest) ++ back)) in
     let e1 : length (front ++ x ∷ []) ≡ suc i = length-append front (x ∷ []) ∙ (omega (arith, e)) in
     let lp = how_many (suc i) parts in
-    let e2 : length ((front ++ x ∷ []) ++ numbered (suc i) parts) ≡ j = length-append (front ++ x ∷ []) (numbered (suc i) parts) ∙ (omega (arith, e1, lp)) in
-    (subst (λ k. slice_get whole k ≡ Some x) e (get_middle front x ((numbered (suc i) parts ++ numbered j rest) ++ back)),
-    subst (λ l. At l (suc i) parts)
-      (append_assoc front (x ∷ []) (numbered (suc i) parts ++ (numbered j rest ++ back)) ∙ ap (λ l. front ++ (x ∷ l)) (sym (append_assoc (numbered (suc i) parts) (numbered j rest) back)))
-      (at_cut (front ++ x ∷ []) parts (numbered j rest ++ back) (suc i) e1),
-    subst (λ l. At l j rest)
-      (append_assoc (front ++ x ∷ []) (numbered (suc i) parts) (numbered j rest ++ back) ∙ append_assoc front (x ∷ []) (numbered (suc i) parts ++ (numbered j rest ++ back)) ∙ ap (λ l. front ++ (x ∷ l)) (sym (append_assoc (numbered (suc i) parts) (numbered j rest) back)))
-      (at_cut ((front ++ x ∷ []) ++ numbered (suc i) parts) rest back j e2))
+    let e2 : length ((front ++ x ∷ []) ++ numbered (suc i) parts) ≡ j = length-append (front ++ x ∷ []) (numbered (suc i) parts) ∙ (omega (arith, e1, lp)) in (
+      subst (λ k. slice_get whole k ≡ Some x) e (get_middle front x ((numbered (suc i) parts ++ numbered j rest) ++ back)),
+      subst (λ l. At l (suc i) parts)
+          (append_assoc front (x ∷ []) (numbered (suc i) parts ++ (numbered j rest ++ back)) ∙ ap (λ l. front ++ (x ∷ l)) (sym (append_assoc (numbered (suc i) parts) (numbered j rest) back)))
+          (at_cut (front ++ x ∷ []) parts (numbered j rest ++ back) (suc i) e1),
+      subst (λ l. At l j rest)
+          (append_assoc (front ++ x ∷ []) (numbered (suc i) parts) (numbered j rest ++ back) ∙ append_assoc front (x ∷ []) (numbered (suc i) parts ++ (numbered j rest ++ back)) ∙ ap (λ l. front ++ (x ∷ l)) (sym (append_assoc (numbered (suc i) parts) (numbered j rest) back)))
+          (at_cut ((front ++ x ∷ []) ++ numbered (suc i) parts) rest back j e2),
+    )
 
 -- the numbered nodes of a forest are where they are numbered
 pub at_whole : (f : Forest) → At (numbered 0 f) 0 f
@@ -94,10 +95,11 @@ roots_in j (tree n p parts rest) from to a b = ((a, (omega (arith, b))), roots_i
 
 numbered_trees : (i : ℕ) (f : Forest) (to : ℕ) → i + size f ≤ to → Fit f → EachTree (λ i n. AllByRecursion (λ c. (i < c) × (c < to)) (node_parts n)) i f
 numbered_trees i none to le h = tt
-numbered_trees i (tree n p parts rest) to le h =
-    (subst (AllByRecursion (λ c. (i < c) × (c < to))) (sym (h.0 (suc i))) (roots_in (suc i) parts (suc i) to (omega arith) (omega (arith, le))),
-    numbered_trees (suc i) parts to (omega (arith, le)) h.1,
-    numbered_trees (suc (i + size parts)) rest to (omega (arith, le)) h.2)
+numbered_trees i (tree n p parts rest) to le h = (
+  subst (AllByRecursion (λ c. (i < c) × (c < to))) (sym (h.0 (suc i))) (roots_in (suc i) parts (suc i) to (omega arith) (omega (arith, le))),
+  numbered_trees (suc i) parts to (omega (arith, le)) h.1,
+  numbered_trees (suc (i + size parts)) rest to (omega (arith, le)) h.2,
+)
 
 pub is_numbered : (f : Forest) → Fit f → IsNumbered (numbered 0 f)
 is_numbered f h =
@@ -118,13 +120,14 @@ module _ (nodes : List Node) (num : IsNumbered nodes) where
       let inner = sizes (suc i) parts a.1 h.1 in
       let outer = sizes (suc (i + size parts)) rest a.2 h.2 in
       let own : spec.size nodes i ≡ suc (size parts) =
-        by_parts 0 size_of (λ (x y : ℕ). x ≡ y) refl same_parts nodes num i
-        ∙ ap (at_node 0 size_of (spec.size nodes) i) a.0
-        ∙ ap (λ cs. suc (sum_of (spec.size nodes) cs)) (h.0 (suc i))
-        ∙ ap suc inner.0 in
-      let next : suc (i + size parts) ≡ i + spec.size nodes i = omega (arith, own) in
-      (ap (λ x. x + sum_of (spec.size nodes) (roots (suc (i + size parts)) rest)) own ∙ ap (λ x. suc (size parts) + x) outer.0 ∙ (omega arith),
-      (refl, subst (λ j. InRow (spec.size nodes) j (roots (suc (i + size parts)) rest)) next outer.1))
+      by_parts 0 size_of (λ (x y : ℕ). x ≡ y) refl same_parts nodes num i
+      ∙ ap (at_node 0 size_of (spec.size nodes) i) a.0
+      ∙ ap (λ cs. suc (sum_of (spec.size nodes) cs)) (h.0 (suc i))
+      ∙ ap suc inner.0 in
+      let next : suc (i + size parts) ≡ i + spec.size nodes i = omega (arith, own) in (
+        ap (λ x. x + sum_of (spec.size nodes) (roots (suc (i + size parts)) rest)) own ∙ ap (λ x. suc (size parts) + x) outer.0 ∙ (omega arith),
+        (refl, subst (λ j. InRow (spec.size nodes) j (roots (suc (i + size parts)) rest)) next outer.1),
+      )
 
   preorder_trees : (i : ℕ) (f : Forest) → At nodes i f → Fit f → EachTree (λ i n. InRow (spec.size nodes) (suc i) (node_parts n)) i f
   preorder_trees i none a h = tt

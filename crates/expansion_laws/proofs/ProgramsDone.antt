@@ -1,5 +1,5 @@
 -- Programs expand to programs.
-use Rattle.std.proofs.Common.{◌≡◌, ℕ, zero, suc, ◌<◌, ◌≤◌, ◌+◌, List, [], ◌∷◌, ◌++◌, length, refl, sym, ap, subst, ◌∙◌, Option, Some, None, arith}
+use Rattle.std.proofs.Common.{◌≡◌, ℕ, List, [], ◌∷◌, length, refl, ap, None, arith}
 use Rattle.std.specs.List.{AllByRecursion}
 use Rattle.smlc_base.specs.declared.place.Place.{Place}
 use Rattle.sml_tree.specs.declared.bare.Node.{Node}
@@ -11,13 +11,13 @@ use Rattle.sml_expansion.specs.Scopes.{Scope, nothing, within}
 use Rattle.sml_expansion.specs.Makings.{nothing_made}
 use Rattle.sml_expansion.specs.Bare.{nest}
 use Rattle.sml_expansion.specs.Expressions.{decs}
-use Rattle.sml_expansion.specs.Programs.{Top, tops, program}
-use Rattle.expansion_laws.proofs.Contexts.{Context, ScopeIn, base_cons}
+use Rattle.sml_expansion.specs.Programs.{tops, program}
+use Rattle.expansion_laws.proofs.Contexts.{Context, base_cons}
 use Rattle.expansion_laws.proofs.Forms as f
 use Rattle.expansion_laws.proofs.Forms.{Sizes, Quiet, Is, before, after}
-use Rattle.expansion_laws.proofs.Growing.{Grows, grows_same, grows_both, TyvarsIn, tyvars_on, Ends, ends_back, Done, done_same, TypesFrom, TypesStand}
+use Rattle.expansion_laws.proofs.Growing.{grows_both, TyvarsIn, tyvars_on, ends_back, Done, done_same, TypesStand}
 use Rattle.expansion_laws.proofs.Kinded.{Kinded, Dec}
-use Rattle.expansion_laws.proofs.DeclarationsDone.{DecsIn, DecsDone, scope_within}
+use Rattle.expansion_laws.proofs.DeclarationsDone.{scope_within}
 use Rattle.expansion_laws.proofs.ExpressionsDone.{phrases_made}
 
 -- the rest of a program
@@ -45,9 +45,12 @@ tops_done z (t ∷ terms) h s m v =
     let x = decs s t m in
     let d = phrases_made z Dec t h.0 s m v in
     let e = tops_done z terms h.1 (within s x.0.env) x.1 (tyvars_on s.tyvars d.grows v) in
-    record { grows = grows_both d.grows e.grows; says = λ y g i p.
-      let o = d.says (ends_back e.grows y) g i in
-      nest_program (place_at t) o.is (e.says y o.after (scope_within x.0.env o.wider o.env i) p) }
+    record {
+      grows = grows_both d.grows e.grows;
+      says = λ y g i p.
+          let o = d.says (ends_back e.grows y) g i in
+          nest_program (place_at t) o.is (e.says y o.after (scope_within x.0.env o.wider o.env i) p);
+    }
 
 -- what is in scope before every program
 abbrev pub start : Context

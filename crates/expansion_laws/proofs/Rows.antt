@@ -1,5 +1,5 @@
 -- Labels of which none stands twice have slots of which none stands twice.
-use Rattle.std.proofs.Common.{◌≡◌, ℕ, zero, suc, ◌<◌, ◌≤◌, ◌+◌, ◌⊎◌, inl, inr, true, false, pos, negsuc, ℤ, cond, List, [], ◌∷◌, ◌++◌, map, length, refl, sym, ap, subst, ◌∙◌, arith, int_lt, eqb-true, ne_eqb, lt-ltb, ltb-true}
+use Rattle.std.proofs.Common.{◌≡◌, ℕ, ◌<◌, ◌≤◌, ◌+◌, ◌⊎◌, inl, inr, true, false, ℤ, cond, List, [], ◌∷◌, map, refl, sym, ap, subst, ◌∙◌, arith, int_lt, eqb-true, ne_eqb, lt-ltb, ltb-true}
 use Rattle.std.specs.Prelude.{Bool, not, nat_eq, nat_lt, ◌||◌, ◌&&◌, count_by, fold}
 use Rattle.std.specs.List.{AllByRecursion, list_any}
 use Rattle.sml_tree.specs.declared.bare.Lab.{Lab}
@@ -7,7 +7,6 @@ use Rattle.sml_tree.specs.declared.bare.Lab.TheVariants.{Num, Text}
 use Rattle.sml_tree.specs.declared.bare.Field.{Field}
 use Rattle.sml_tree.specs.Sets.{has}
 use Rattle.sml_tree.specs.IsBare.{lab_less, bytes_less, IsRow, IsDistinct}
-use Rattle.sml_tree.proofs.Members.{either}
 use Rattle.sml_expansion.specs.Bare.{fields}
 use Rattle.sml_expansion.specs.Labels.{slot, lab_eq}
 use Rattle.sml_expansion.specs.Forests.{fields_at}

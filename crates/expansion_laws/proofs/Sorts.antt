@@ -1,17 +1,15 @@
 -- Each node that is made has the parts that stand there, each of its sort.
-use Rattle.std.proofs.Common.{◌≡◌, ℕ, zero, suc, ◌<◌, ◌≤◌, ◌+◌, true, false, List, [], ◌∷◌, ◌++◌, map, length, drop, get_or, refl, sym, ap, subst, ◌∙◌, Option, Some, None, arith}
-use Rattle.std.specs.Prelude.{slice_get, Bool, flat_map}
+use Rattle.std.proofs.Common.{◌≡◌, ℕ, suc, ◌+◌, true, List, [], ◌∷◌, map, length, refl, sym, ap, ◌∙◌, Some, arith}
+use Rattle.std.specs.Prelude.{slice_get, flat_map}
 use Rattle.std.specs.List.{AllByRecursion}
 use Rattle.std.specs.Option.{option_map}
-use Rattle.std.proofs.lemmas.List.{length-append, length-map}
+use Rattle.std.proofs.lemmas.List.{length-map}
 use Rattle.smlc_base.specs.declared.place.Place.{Place}
 use Rattle.sml_tree.specs.declared.bare.Node.{Node}
-use Rattle.sml_tree.specs.declared.bare.Node.TheVariants as node
 use Rattle.sml_tree.specs.declared.bare.Field.{Field}
-use Rattle.sml_tree.specs.declared.bare.Rule.{Rule}
 use Rattle.sml_tree.specs.declared.bare.Lab.{Lab}
 use Rattle.sml_tree.specs.declared.bare.RecBinding.{RecBinding}
-use Rattle.sml_tree.specs.BareParts.{node_parts, rule_parts, IsNumbered, at_node, from_parts}
+use Rattle.sml_tree.specs.BareParts.{rule_parts}
 use Rattle.sml_tree.specs.IsBare.{Sort, Expression, Pattern, Declaration, sort_of, IsOf, HasRules, HasSorts, is_function, function_of}
 use Rattle.sml_expansion.specs.declared.made.Made.{Made}
 use Rattle.sml_expansion.specs.Forests.{Forest, none, tree, size, count, roots, with_parts, fields_at, rules_at, bindings_at, rec_bindings_at, part}
@@ -246,19 +244,28 @@ module _ (nodes : List Node) (fn : (i : ℕ) (n : Node) → slice_get nodes i �
   sort_of_part r t (f.is_builtin b) = ((λ rs. refl), λ j at. (tt, tt))
   sort_of_part r t (f.is_record labs o h) = ((λ rs. refl), λ j at. let d = sort_of_part (f.expressions (length labs)) t h j at in (field_sorts Expression (roots j t) (fields labs) (many_fields labs j t (counted h)) d.0, d.1))
   sort_of_part r t (f.is_app h) = ((λ rs. refl), λ j at. let d = sort_of_part (f.expressions 2) t h j at in (second_sort (IsOf nodes Expression) (roots j t) (many_roots j t ∙ counted h) d.0, d.1))
-  sort_of_part r t (f.is_case {a = a} {p = p} {parts = parts} {rest = rest} h i) = ((λ rs. refl), λ j at.
-      let x = sort_of_part (f.expression a) parts h in let d = x.1 (suc j) at.1 in let w = sort_of_part f.rules rest i (suc (j + size parts)) at.2 in
-      ((is_of _ Expression at.0 (x.0 (roots (suc j) parts)), w.0), (d.0, d.1, w.1)))
+  sort_of_part r t (f.is_case {a = a} {p = p} {parts = parts} {rest = rest} h i) = (
+    (λ rs. refl),
+    λ j at.
+        let x = sort_of_part (f.expression a) parts h in let d = x.1 (suc j) at.1 in let w = sort_of_part f.rules rest i (suc (j + size parts)) at.2 in
+        ((is_of _ Expression at.0 (x.0 (roots (suc j) parts)), w.0), (d.0, d.1, w.1)),
+  )
   sort_of_part r t (f.is_fn h) = ((λ rs. refl), λ j at. sort_of_part f.rules t h j at)
   sort_of_part r t (f.is_raise h) = ((λ rs. refl), λ j at. let d = sort_of_part (f.expressions 1) t h j at in (first_sort (IsOf nodes Expression) (roots j t) (many_roots j t ∙ counted h) d.0, d.1))
-  sort_of_part r t (f.is_handle {a = a} {p = p} {parts = parts} {rest = rest} h i) = ((λ rs. refl), λ j at.
-      let x = sort_of_part (f.expression a) parts h in let d = x.1 (suc j) at.1 in let w = sort_of_part f.rules rest i (suc (j + size parts)) at.2 in
-      ((is_of _ Expression at.0 (x.0 (roots (suc j) parts)), w.0), (d.0, d.1, w.1)))
+  sort_of_part r t (f.is_handle {a = a} {p = p} {parts = parts} {rest = rest} h i) = (
+    (λ rs. refl),
+    λ j at.
+        let x = sort_of_part (f.expression a) parts h in let d = x.1 (suc j) at.1 in let w = sort_of_part f.rules rest i (suc (j + size parts)) at.2 in
+        ((is_of _ Expression at.0 (x.0 (roots (suc j) parts)), w.0), (d.0, d.1, w.1)),
+  )
   sort_of_part r t (f.is_typed y o h) = ((λ rs. refl), λ j at. let d = sort_of_part (f.expressions 1) t h j at in (first_sort (IsOf nodes Expression) (roots j t) (many_roots j t ∙ counted h) d.0, d.1))
-  sort_of_part r t (f.is_let {h = e} {a = a} {b = b} {parts = parts} {inner = inner} h i) = ((λ rs. refl), λ j at.
-      let x = sort_of_part (f.declaration a e) parts h in let y = sort_of_part (f.expression b) inner i in
-      let d = x.1 (suc j) at.1 in let w = y.1 (suc (suc (j + size parts))) at.2.1 in
-      ((is_of _ Declaration at.0 (x.0 (roots (suc j) parts)), is_of _ Expression at.2.0 (y.0 (roots (suc (suc (j + size parts))) inner))), (d.0, d.1, (w.0, w.1, tt))))
+  sort_of_part r t (f.is_let {h = e} {a = a} {b = b} {parts = parts} {inner = inner} h i) = (
+    (λ rs. refl),
+    λ j at.
+        let x = sort_of_part (f.declaration a e) parts h in let y = sort_of_part (f.expression b) inner i in
+        let d = x.1 (suc j) at.1 in let w = y.1 (suc (suc (j + size parts))) at.2.1 in
+        ((is_of _ Declaration at.0 (x.0 (roots (suc j) parts)), is_of _ Expression at.2.0 (y.0 (roots (suc (suc (j + size parts))) inner))), (d.0, d.1, (w.0, w.1, tt))),
+  )
   sort_of_part r t (f.fn_function h) = (((λ rs. refl), λ j at. sort_of_part f.rules t h j at), λ i j at. refl)
   sort_of_part r t (f.typed_function y o h) = (((λ rs. refl), λ j at. let d = sort_of_part (f.functions 1) t h j at in (first_sort (IsOf nodes Expression) (roots j t) (many_roots j t ∙ counted_functions h) (fun_expression t h j at), d.1)), λ i j at. let d = sort_of_part (f.functions 1) t h j at in first_sort (λ c. is_function nodes c ≡ true) (roots j t) (many_roots j t ∙ counted_functions h) d.0)
   sort_of_part r t f.is_wild = ((λ rs. refl), λ j at. (tt, tt))
@@ -280,7 +287,10 @@ module _ (nodes : List Node) (fn : (i : ℕ) (n : Node) → slice_get nodes i �
   sort_of_part r t (f.same_exception x c e o) = ((λ rs. refl), λ j at. (tt, tt))
   sort_of_part r t (f.not_exception x e) = ((λ rs. refl), λ j at. (tt, tt))
   sort_of_part r t f.program_end = ((λ rs. refl), λ j at. (tt, tt))
-  sort_of_part r t (f.program_let {h = e} {a = a} {b = b} {parts = parts} {inner = inner} h i) = ((λ rs. refl), λ j at.
-      let x = sort_of_part (f.declaration a e) parts h in let y = sort_of_part (f.program b) inner i in
-      let d = x.1 (suc j) at.1 in let w = y.1 (suc (suc (j + size parts))) at.2.1 in
-      ((is_of _ Declaration at.0 (x.0 (roots (suc j) parts)), is_of _ Expression at.2.0 (y.0 (roots (suc (suc (j + size parts))) inner))), (d.0, d.1, (w.0, w.1, tt))))
+  sort_of_part r t (f.program_let {h = e} {a = a} {b = b} {parts = parts} {inner = inner} h i) = (
+    (λ rs. refl),
+    λ j at.
+        let x = sort_of_part (f.declaration a e) parts h in let y = sort_of_part (f.program b) inner i in
+        let d = x.1 (suc j) at.1 in let w = y.1 (suc (suc (j + size parts))) at.2.1 in
+        ((is_of _ Declaration at.0 (x.0 (roots (suc j) parts)), is_of _ Expression at.2.0 (y.0 (roots (suc (suc (j + size parts))) inner))), (d.0, d.1, (w.0, w.1, tt))),
+  )

@@ -1,17 +1,15 @@
 -- Each name is bound once, and each type name is declared once, in order.
-use Rattle.std.proofs.Common.{◌≡◌, ℕ, zero, suc, ◌<◌, ◌≤◌, ◌+◌, true, false, List, [], ◌∷◌, ◌++◌, map, length, refl, sym, ap, subst, ◌∙◌, Option, Some, None, arith, ne_eqb}
-use Rattle.std.specs.Prelude.{slice_get, Bool, flat_map, nat_eq, ◌||◌}
-use Rattle.std.specs.List.{AllByRecursion}
+use Rattle.std.proofs.Common.{◌≡◌, ℕ, suc, ◌<◌, ◌+◌, false, List, [], ◌∷◌, ◌++◌, map, length, refl, sym, ap, subst, ◌∙◌, arith, ne_eqb}
+use Rattle.std.specs.Prelude.{flat_map, nat_eq}
 use Rattle.std.proofs.lemmas.List.{length-append, length-map, append_assoc, append-nil}
 use Rattle.smlc_base.specs.declared.place.Place.{Place}
 use Rattle.sml_tree.specs.declared.bare.Node.{Node}
 use Rattle.sml_tree.specs.declared.bare.Node.TheVariants as node
 use Rattle.sml_tree.specs.declared.bare.DatBinding.{DatBinding}
-use Rattle.sml_tree.specs.declared.bare.RecBinding.{RecBinding}
 use Rattle.sml_tree.specs.Sets.{has}
-use Rattle.sml_tree.specs.IsBare.{IsDistinct, names_at, is_finish}
+use Rattle.sml_tree.specs.IsBare.{IsDistinct, names_at}
 use Rattle.sml_expansion.specs.declared.made.Made.{Made}
-use Rattle.sml_expansion.specs.Forests.{Forest, none, tree, size, count, roots, numbered, with_parts, rec_bindings_at}
+use Rattle.sml_expansion.specs.Forests.{Forest, none, tree, size, roots, numbered, with_parts, rec_bindings_at}
 use Rattle.expansion_laws.proofs.Contexts.{Context}
 use Rattle.expansion_laws.proofs.Forms as f
 use Rattle.expansion_laws.proofs.Forms.{Sizes, Is, Part, Quiet, Names, From, DatasIn}

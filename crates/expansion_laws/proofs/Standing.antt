@@ -1,6 +1,6 @@
 -- What stands where in a parse tree, as evidence.
-use Rattle.std.proofs.Common.{◌≡◌, ℕ, zero, suc, ◌<◌, ◌≤◌, ◌+◌, ◌^◌, true, false, cond, ℤ, pos, negsuc, List, [], ◌∷◌, ◌++◌, length, reverse, refl, sym, ap, subst, ◌∙◌, arith, ltb-true, eq-eqb}
-use Rattle.std.specs.Prelude.{Bool, ◌&&◌, nat_eq, nat_lt, int_le, neg_ℤ, ◌-◌}
+use Rattle.std.proofs.Common.{◌≡◌, ℕ, zero, suc, ◌<◌, ◌≤◌, ◌+◌, ◌^◌, true, false, cond, ℤ, pos, negsuc, List, [], ◌∷◌, length, refl, sym, ap, ◌∙◌, arith, ltb-true, eq-eqb}
+use Rattle.std.specs.Prelude.{Bool, ◌&&◌, nat_eq, int_le, neg_ℤ, ◌-◌}
 use Rattle.std.specs.List.{AllByRecursion, list_all}
 use Rattle.smlc_base.specs.declared.place.Place.{Place}
 use Rattle.sml_tree.specs.declared.tree.Tree.{Tree}

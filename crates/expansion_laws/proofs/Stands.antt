@@ -1,10 +1,9 @@
 -- What a node cites stands.
-use Rattle.std.proofs.Common.{◌≡◌, ℕ, zero, suc, ◌<◌, ◌≤◌, ◌+◌, ◌^◌, ◌⊎◌, inl, inr, true, false, cond, List, [], ◌∷◌, ◌++◌, map, length, refl, sym, ap, subst, ◌∙◌, Option, Some, None, arith, eq-eqb, ne_eqb}
+use Rattle.std.proofs.Common.{◌≡◌, ℕ, zero, suc, ◌<◌, ◌≤◌, ◌+◌, ◌⊎◌, inl, inr, true, false, cond, List, [], ◌∷◌, ◌++◌, map, length, refl, sym, ap, subst, ◌∙◌, Option, Some, None, arith, eq-eqb, ne_eqb}
 use Rattle.std.specs.Prelude.{slice_get, Bool, nat_eq, flat_map, unwrap_or}
 use Rattle.std.specs.List.{AllByRecursion}
 use Rattle.std.specs.Option.{is_some}
-use Rattle.std.proofs.lemmas.List.{length-map, append-nil, append_assoc}
-use Rattle.smlc_base.specs.declared.place.Place.{Place}
+use Rattle.std.proofs.lemmas.List.{append-nil, append_assoc}
 use Rattle.sml_tree.specs.declared.bare.Bare.{Bare}
 use Rattle.sml_tree.specs.declared.bare.Con.{Con}
 use Rattle.sml_tree.specs.declared.bare.Con.TheVariants as con
@@ -12,19 +11,16 @@ use Rattle.sml_tree.specs.declared.bare.ConBinding.{ConBinding}
 use Rattle.sml_tree.specs.declared.bare.DatBinding.{DatBinding}
 use Rattle.sml_tree.specs.declared.bare.Node.{Node}
 use Rattle.sml_tree.specs.declared.bare.Node.TheVariants as node
-use Rattle.sml_tree.specs.declared.bare.Field.{Field}
-use Rattle.sml_tree.specs.declared.bare.RecBinding.{RecBinding}
 use Rattle.sml_tree.specs.IsBare as spec
 use Rattle.sml_tree.specs.IsBare.{Stands, ConStands, OptionStands, declared_by, cons_of}
 use Rattle.sml_expansion.specs.declared.made.Made.{Made}
 use Rattle.sml_expansion.specs.Bindings.{has}
-use Rattle.sml_expansion.specs.Bare.{fields}
-use Rattle.sml_expansion.specs.Forests.{Forest, none, tree, grown, size, count, roots, numbered, with_parts, fields_at, rec_bindings_at}
-use Rattle.expansion_laws.proofs.Contexts.{Among, Context, with_vars, with_cons, ConIn, base_cons, among_split, among_left, among_right}
+use Rattle.sml_expansion.specs.Forests.{Forest, size, roots, with_parts, rec_bindings_at}
+use Rattle.expansion_laws.proofs.Contexts.{Among, Context, with_vars, ConIn, base_cons, among_split, among_left, among_right}
 use Rattle.expansion_laws.proofs.Forms as f
 use Rattle.expansion_laws.proofs.Forms.{Sizes, Is, Part, Names, Quiet, From, DatasIn, ArgIn, cons_from, data_cons}
 use Rattle.expansion_laws.proofs.Positions.{At, EachTree}
-use Rattle.expansion_laws.proofs.Spans.{all, datas_at, spans_of, SpansOf, Spans}
+use Rattle.expansion_laws.proofs.Spans.{datas_at, spans_of, SpansOf, Spans}
 use Rattle.expansion_laws.proofs.Sorts.{rec_of}
 use Rattle.expansion_laws.proofs.Rows.{row_is}
 use Rattle.sml_tree.proofs.Unfold.{all_map}
@@ -242,8 +238,8 @@ module _ (p : Bare) (declared : From 10 (flat_map datas_at p.nodes)) where
   binding_cons d m few c a =
       let o = one_con c d.type_name 0 d.cons a in
       let all_of : cons_of p.nodes d.type_name ≡ argued d =
-        ap (λ l. unwrap_or l [] ++ flat_map (declared_by d.type_name) p.nodes) (past_base d.type_name (from_least 10 (flat_map dats p.nodes) d ordered m))
-        ∙ declared_all d.type_name p.nodes ∙ declared_once 10 (flat_map dats p.nodes) d ordered m in
+      ap (λ l. unwrap_or l [] ++ flat_map (declared_by d.type_name) p.nodes) (past_base d.type_name (from_least 10 (flat_map dats p.nodes) d ordered m))
+      ∙ declared_all d.type_name p.nodes ∙ declared_once 10 (flat_map dats p.nodes) d ordered m in
       let z : 0 + o.at ≡ o.at = omega arith in let l = o.less in
       subst (ConStands p) (sym (o.same ∙ ap (λ w. con.Data d.type_name w o.takes) z)) (ap (λ w. slice_get w o.at) all_of ∙ o.there, omega (arith, l, few))
 
@@ -284,6 +280,7 @@ module _ (p : Bare) (declared : From 10 (flat_map datas_at p.nodes)) where
       go : (x : ℕ) → Among x xs ⊎ Among x g.vars → x < length p.names
       go x (inl a) = b x a
       go x (inr a) = o.vars x a
+
   cons_after : {m n : Made} (g h : Context) (a : Node) (t : Forest) → Is (sizes_in p) g m n (f.declaration a h) t → Good g → (i : ℕ) → slice_get p.nodes i ≡ Some (with_parts a (roots (suc i) t)) → (c : Con) → Among c h.cons → ConStands p c
   cons_after g h a t (f.before q d) o i e c m = cons_after g h a t d o i e c m
   cons_after g h a t (f.after d q) o i e c m = cons_after g h a t d o i e c m

@@ -1,8 +1,7 @@
 -- Types are made of parts that stand before them.
-use Rattle.std.proofs.Common.{◌≡◌, ℕ, zero, suc, ◌<◌, ◌≤◌, ◌+◌, true, false, List, [], ◌∷◌, ◌++◌, map, length, refl, sym, ap, subst, ◌∙◌, Option, Some, None, arith}
-use Rattle.std.specs.Prelude.{Bool, slice_get, get_or, nat_eq, if◌then◌else◌}
+use Rattle.std.proofs.Common.{◌≡◌, ℕ, ◌<◌, true, false, List, [], ◌∷◌, ◌++◌, length, refl, subst, ◌∙◌, Option, Some, None, arith}
+use Rattle.std.specs.Prelude.{Bool, get_or, nat_eq, if◌then◌else◌}
 use Rattle.std.specs.List.{AllByRecursion}
-use Rattle.std.proofs.lemmas.List.{length-append}
 use Rattle.smlc_base.specs.declared.place.Place.{Place}
 use Rattle.sml_tree.specs.declared.bare.Lab.{Lab}
 use Rattle.sml_tree.specs.declared.bare.TypeExp.{TypeExp}
@@ -11,12 +10,12 @@ use Rattle.sml_expansion.specs.declared.made.Made.{Made}
 use Rattle.sml_expansion.specs.declared.meaning.TypeMeaning.{TypeMeaning}
 use Rattle.sml_expansion.specs.declared.meaning.TypeMeaning.TheVariants.{TypeName, Abbreviation, EmptyRecord}
 use Rattle.sml_expansion.specs.declared.scope.Ident.{Ident}
-use Rattle.sml_expansion.specs.Makings.{Makes, breaks, new_type}
+use Rattle.sml_expansion.specs.Makings.{breaks, new_type}
 use Rattle.sml_expansion.specs.Scoped.{latest}
 use Rattle.sml_expansion.specs.Scopes.{Scope, ident, type_meaning_of}
 use Rattle.sml_expansion.specs.Terms.{Term}
 use Rattle.sml_expansion.specs.Labels.{numbers, doubles, lab_eq}
-use Rattle.sml_expansion.specs.Types.{types, type_of, fields_of, type_fields, constructed, constructor_at, variable_at, record_type, labels, labels_in}
+use Rattle.sml_expansion.specs.Types.{types, type_of, fields_of, type_fields, constructed, variable_at, record_type, labels, labels_in}
 use Rattle.smlc_base.specs.declared.refusal.Refusal.TheVariants as refusal
 use Rattle.expansion_laws.proofs.Forms.{Quiet}
 use Rattle.expansion_laws.proofs.Growing.{TypeIn, Grows, grows_same, grows_both, type_grows, type_number, breaks_grows, TyvarsIn, tyvars_on}

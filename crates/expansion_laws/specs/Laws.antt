@@ -1,5 +1,5 @@
 -- The law of the expansion: what it makes of a parse tree that breaks no rule is a bare tree.
-use Rattle.std.specs.Prelude.{◌≡◌, ℕ, suc, ◌<◌, ◌≤◌, ◌^◌, None, length}
+use Rattle.std.specs.Prelude.{◌≡◌, suc, ◌<◌, ◌≤◌, ◌^◌, None, length}
 use Rattle.std.specs.List.{AllByRecursion}
 use Rattle.sml_tree.specs.declared.tree.Tree.{Tree}
 use Rattle.sml_tree.specs.declared.tree_node.TreeNode.{TreeNode}
