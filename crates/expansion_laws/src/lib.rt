@@ -3,6 +3,8 @@
 //! It stands on `sml_expansion`, `sml_tree`, `sml_prelude` and `smlc_base`. Its contract is `expansion_is_bare`.
 #![tactic(auto)]
 
+pub mod bytes;
+
 ghost use Rattle.sml_tree.specs.declared.tree.Tree.{Tree};
 ghost use Rattle.expansion_laws.specs.Laws.{ExpandsToBare};
 
