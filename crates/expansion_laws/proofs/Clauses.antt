@@ -3,6 +3,7 @@ use Rattle.std.proofs.Common.{◌≡◌, ℕ, zero, suc, ◌<◌, ◌≤◌, ◌
 use Rattle.std.specs.Prelude.{Bool, slice_get, flat_map, count_by, ◌||◌}
 use Rattle.std.specs.List.{AllByRecursion}
 use Rattle.std.proofs.lemmas.List.{append-nil}
+use Rattle.sml_tree.specs.declared.bare.Bare.{Bare}
 use Rattle.sml_tree.specs.declared.bare.Node.{Node}
 use Rattle.sml_tree.specs.declared.bare.Node.TheVariants as node
 use Rattle.sml_tree.specs.declared.bare.TypeExp.{TypeExp}
@@ -19,13 +20,13 @@ use Rattle.sml_expansion.specs.Forests.{Forest, none, grown, numbered, roots, wi
 use Rattle.sml_expansion.specs.Makings.{nothing_made}
 use Rattle.sml_expansion.specs.Programs.{tops, program, last_place, no_place}
 use Rattle.sml_expansion.specs.Terms.{trees}
-use Rattle.sml_expansion.specs.Whole.{bare_of, broken, width_limit}
+use Rattle.sml_expansion.specs.Whole.{bare_of, broken, width_limit, IsExpansion}
 use Rattle.expansion_laws.proofs.Forms as f
 use Rattle.expansion_laws.proofs.Forms.{Is, From}
 use Rattle.expansion_laws.proofs.Growing.{TypeIn, TypesFrom}
 use Rattle.expansion_laws.proofs.Kinded.{Kinded, Dec}
 use Rattle.expansion_laws.proofs.Standing.{tree_shaped}
-use Rattle.expansion_laws.specs.Laws.{ExpandsToBare}
+use Rattle.expansion_laws.specs.Laws.{CharFits, ExpandsToBare}
 use Rattle.expansion_laws.proofs.Positions.{At, at_whole, how_many, how_many_places, all_numbered, Fit, is_numbered, is_preorder}
 use Rattle.expansion_laws.proofs.Sorts.{fit_of, sort_of_part}
 use Rattle.expansion_laws.proofs.Spans.{spans_of, distinct, all_tree, datas_at}
@@ -175,3 +176,10 @@ module _ (t : Tree) (shaped : IsShaped t) (kept : broken t ≡ None) where
 -- the whole law
 pub expands_to_bare : (t : Tree) → ExpandsToBare t
 expands_to_bare t chars few kept narrow = is_bare t (tree_shaped t chars) kept few narrow
+
+-- what is the bare tree of a tree that breaks no rule is its expansion
+pub is_expansion : (t : Tree) (b : Bare) → AllByRecursion CharFits t.nodes → suc (length b.nodes) < 2 ^ 32 → broken t ≡ None → b.width ≤ width_limit → b ≡ bare_of t → IsExpansion t b
+is_expansion t b chars few kept narrow same =
+    let counted = subst (λ (x : Bare). suc (length x.nodes) < 2 ^ 32) same few in
+    let within = subst (λ (x : Bare). x.width ≤ width_limit) same narrow in
+    record { kept = kept; narrow = within; same = same; is_bare = subst IsBare (sym same) (expands_to_bare t chars counted kept within) }
