@@ -58,26 +58,26 @@ module _ (t : Tree) (shaped : IsShaped t) (kept : broken t ≡ None) where
   fits : let p = forest_is t shaped kept in Fit (grown p.node p.place p.parts)
   fits = let p = forest_is t shaped kept in let d = fit_of (f.program p.node) p.parts p.is in (d.0, d.1, tt)
 
-  pub numbered_all : IsNumbered (bare_of t).nodes
-  numbered_all = let p = forest_is t shaped kept in subst (λ x. IsNumbered (numbered 0 x)) (sym p.same) (is_numbered (grown p.node p.place p.parts) fits)
+  pub nodes_numbered : IsNumbered (bare_of t).nodes
+  nodes_numbered = let p = forest_is t shaped kept in subst (λ x. IsNumbered (numbered 0 x)) (sym p.same) (is_numbered (grown p.node p.place p.parts) fits)
 
-  pub preorder_all : IsPreorder (bare_of t).nodes
-  preorder_all = let p = forest_is t shaped kept in subst (λ x. IsPreorder (numbered 0 x)) (sym p.same) (is_preorder p.node p.place p.parts fits)
+  pub in_preorder : IsPreorder (bare_of t).nodes
+  in_preorder = let p = forest_is t shaped kept in subst (λ x. IsPreorder (numbered 0 x)) (sym p.same) (is_preorder p.node p.place p.parts fits)
 
   pub places_stand : length (bare_of t).places ≡ length (bare_of t).nodes
   places_stand = how_many_places (forest_of t) ∙ sym (how_many 0 (forest_of t))
 
   function_by_parts : (i : ℕ) (n : Node) → slice_get (bare_of t).nodes i ≡ Some n → is_function (bare_of t).nodes i ≡ function_of (is_function (bare_of t).nodes) i n
-  function_by_parts i n e = by_parts false function_of (λ x y. x ≡ y) refl function_parts (bare_of t).nodes numbered_all i ∙ ap (at_node false function_of (is_function (bare_of t).nodes) i) e
+  function_by_parts i n e = by_parts false function_of (λ x y. x ≡ y) refl function_parts (bare_of t).nodes nodes_numbered i ∙ ap (at_node false function_of (is_function (bare_of t).nodes) i) e
 
-  pub once_all : IsDistinct (flat_map names_at (bare_of t).nodes)
-  once_all =
+  pub names_once : IsDistinct (flat_map names_at (bare_of t).nodes)
+  names_once =
       let p = forest_is t shaped kept in
       let d = spans_of (f.program p.node) p.parts p.is in
       subst (λ x. IsDistinct (flat_map names_at (numbered 0 x))) (sym p.same) (distinct 0 _ (subst (From 0) (sym (all_tree names_at 0 p.node p.place p.parts none)) (subst (From 0) (sym (append-nil _)) (d _ 1).names.from)))
 
-  pub sorts_all : AllByRecursion (HasSorts (bare_of t).nodes) (bare_of t).nodes
-  sorts_all =
+  pub sorts_stand : AllByRecursion (HasSorts (bare_of t).nodes) (bare_of t).nodes
+  sorts_stand =
       let p = forest_is t shaped kept in
       let nodes = (bare_of t).nodes in
       let whole : At nodes 0 (grown p.node p.place p.parts) = subst (λ x. At (numbered 0 x) 0 (grown p.node p.place p.parts)) (sym p.same) (at_whole (grown p.node p.place p.parts)) in
@@ -102,21 +102,21 @@ module _ (t : Tree) (shaped : IsShaped t) (kept : broken t ≡ None) where
   stands_type i (type.Abbreviation n args) h = h
   stands_type i (type.UnitOf args) h = h
 
-  pub types_all : (i : ℕ) (u : TypeExp) → slice_get (bare_of t).types i ≡ Some u → TypeStands (bare_of t) i u
-  types_all i u e =
+  pub types_stand : (i : ℕ) (u : TypeExp) → slice_get (bare_of t).types i ≡ Some u → TypeStands (bare_of t) i u
+  types_stand i u e =
       let z : 0 + i ≡ i = omega arith in
       stands_type i u (subst (λ k. TypeIn (length (bare_of t).tyvars) k u) z (types_at 0 0 (bare_of t).types (types_done t.names (length t.texts) (trees t.nodes t.places) shaped) i u e))
 
   whole_at : let p = forest_is t shaped kept in At (bare_of t).nodes 0 (grown p.node p.place p.parts)
   whole_at = let p = forest_is t shaped kept in subst (λ x. At (numbered 0 x) 0 (grown p.node p.place p.parts)) (sym p.same) (at_whole (grown p.node p.place p.parts))
 
-  pub bound_all : free (bare_of t).nodes 0 ≡ []
-  bound_all =
+  pub names_bound : free (bare_of t).nodes 0 ≡ []
+  names_bound =
       let p = forest_is t shaped kept in
       let nodes = (bare_of t).nodes in
       let at = whole_at in
-      let d = bound_of nodes numbered_all start (f.program p.node) p.parts p.is 1 at.1 in
-      no_member (free nodes 0) (λ x h. d x (sym (ap (λ s. has s x) (free_unfold nodes numbered_all 0 (with_parts p.node (roots 1 p.parts)) at.0)) ∙ h))
+      let d = bound_of nodes nodes_numbered start (f.program p.node) p.parts p.is 1 at.1 in
+      no_member (free nodes 0) (λ x h. d x (sym (ap (λ s. has s x) (free_unfold nodes nodes_numbered 0 (with_parts p.node (roots 1 p.parts)) at.0)) ∙ h))
 
   declared_all : From 10 (flat_map datas_at (bare_of t).nodes)
   declared_all =
@@ -125,50 +125,50 @@ module _ (t : Tree) (shaped : IsShaped t) (kept : broken t ≡ None) where
       subst (λ x. From 10 (flat_map datas_at (numbered 0 x))) (sym p.same)
       (subst (From 10) (sym (all_tree datas_at 0 p.node p.place p.parts none)) (subst (From 10) (sym (append-nil _)) (d _ 1).datas.from))
 
-  pub stands_all : AllByRecursion (Stands (bare_of t)) (bare_of t).nodes
-  stands_all =
+  pub nodes_stand : AllByRecursion (Stands (bare_of t)) (bare_of t).nodes
+  nodes_stand =
       let p = forest_is t shaped kept in
       let at = whole_at in
       let d = stands_of (bare_of t) declared_all start (f.program p.node) p.parts p.is (record { vars = λ x a. absurd a; cons = base_stands (bare_of t) declared_all }) (omega arith) 1 at.1 in
       let each : AllByRecursion (Stands (bare_of t)) (numbered 0 (grown p.node p.place p.parts)) = all_numbered (Stands (bare_of t)) 0 (grown p.node p.place p.parts) (d.0, d.1, tt) in
       subst (λ x. AllByRecursion (Stands (bare_of t)) (numbered 0 x)) (sym p.same) each
 
-  pub nest_all : from_parts false nest_of (bare_of t).nodes 0 ≡ true
-  nest_all = let r = tops (start_scope t.names) (trees t.nodes t.places) nothing_made in nest_is (bare_of t).nodes numbered_all (last_place no_place r.0) r.0 0 (at_whole (forest_of t))
+  pub one_nest : from_parts false nest_of (bare_of t).nodes 0 ≡ true
+  one_nest = let r = tops (start_scope t.names) (trees t.nodes t.places) nothing_made in nest_is (bare_of t).nodes nodes_numbered (last_place no_place r.0) r.0 0 (at_whole (forest_of t))
 
-  pub end_all : count_by is_finish (bare_of t).nodes ≡ 1
-  end_all = let p = forest_is t shaped kept in ap (λ x. count_by is_finish (numbered 0 x)) p.same ∙ ends_once p.node p.place p.parts p.is
+  pub one_end : count_by is_finish (bare_of t).nodes ≡ 1
+  one_end = let p = forest_is t shaped kept in ap (λ x. count_by is_finish (numbered 0 x)) p.same ∙ ends_once p.node p.place p.parts p.is
 
   lets_all : spec.lets (bare_of t).nodes ≡ all_lets 0 (tops (start_scope t.names) (trees t.nodes t.places) nothing_made).0
-  lets_all = let r = tops (start_scope t.names) (trees t.nodes t.places) nothing_made in lets_are (bare_of t).nodes numbered_all (last_place no_place r.0) r.0 0 (at_whole (forest_of t))
+  lets_all = let r = tops (start_scope t.names) (trees t.nodes t.places) nothing_made in lets_are (bare_of t).nodes nodes_numbered (last_place no_place r.0) r.0 0 (at_whole (forest_of t))
 
-  pub decs_all : IsAscending 0 (bare_of t).decs × AllByRecursion (λ i. has (spec.lets (bare_of t).nodes) i ≡ true) (bare_of t).decs
-  decs_all =
+  pub decs_stand : IsAscending 0 (bare_of t).decs × AllByRecursion (λ i. has (spec.lets (bare_of t).nodes) i ≡ true) (bare_of t).decs
+  decs_stand =
       let r = tops (start_scope t.names) (trees t.nodes t.places) nothing_made in
       subst (λ l. IsAscending 0 (bare_of t).decs × AllByRecursion (λ i. has l i ≡ true) (bare_of t).decs) (sym lets_all) (decs_are r.0)
 
-  pub first_dec_all : slice_get (bare_of t).decs 0 ≡ slice_get (spec.lets (bare_of t).nodes) 0
-  first_dec_all = let r = tops (start_scope t.names) (trees t.nodes t.places) nothing_made in first_is 0 r.0 ∙ ap (λ l. slice_get l 0) (sym lets_all)
+  pub first_dec_stands : slice_get (bare_of t).decs 0 ≡ slice_get (spec.lets (bare_of t).nodes) 0
+  first_dec_stands = let r = tops (start_scope t.names) (trees t.nodes t.places) nothing_made in first_is 0 r.0 ∙ ap (λ l. slice_get l 0) (sym lets_all)
 
-  pub shown_all : IsAscending 0 (bare_of t).shown × AllByRecursion (λ d. has (spec.values (bare_of t).nodes) d ≡ true) (bare_of t).shown
-  shown_all = let r = tops (start_scope t.names) (trees t.nodes t.places) nothing_made in shown_are (bare_of t).nodes (last_place no_place r.0) r.0 (at_whole (forest_of t)) lets_all
+  pub shown_stand : IsAscending 0 (bare_of t).shown × AllByRecursion (λ d. has (spec.values (bare_of t).nodes) d ≡ true) (bare_of t).shown
+  shown_stand = let r = tops (start_scope t.names) (trees t.nodes t.places) nothing_made in shown_are (bare_of t).nodes (last_place no_place r.0) r.0 (at_whole (forest_of t)) lets_all
 
   pub is_bare : suc (length (bare_of t).nodes) < 2 ^ 32 → (bare_of t).width ≤ width_limit → IsBare (bare_of t)
   is_bare few narrow = record {
     few = few;
-    numbered = numbered_all;
-    preorder = preorder_all;
+    numbered = nodes_numbered;
+    preorder = in_preorder;
     places = places_stand;
-    sorts = sorts_all;
-    stands = stands_all;
-    types = types_all;
-    bound = bound_all;
-    once = once_all;
-    nest = nest_all;
-    end = end_all;
-    decs = decs_all;
-    first_dec = first_dec_all;
-    shown = shown_all;
+    sorts = sorts_stand;
+    stands = nodes_stand;
+    types = types_stand;
+    bound = names_bound;
+    once = names_once;
+    nest = one_nest;
+    end = one_end;
+    decs = decs_stand;
+    first_dec = first_dec_stands;
+    shown = shown_stand;
     width = refl;
     narrow = omega (arith, narrow);
   }
