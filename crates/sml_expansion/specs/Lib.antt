@@ -19,3 +19,4 @@ pub mod Terms
 pub mod Kinds
 pub mod TypeVariables
 pub mod Types
+pub mod Whole
