@@ -1,14 +1,11 @@
 -- The greatest choice of the datatypes that admit equality: a larger choice admits more, so what is struck out of all is in no choice that is allowed.
-use Rattle.std.proofs.Common.{◌≡◌, ℕ, zero, suc, ◌+◌, ◌<◌, Bool, true, false, cond, List, [], ◌∷◌, length, Option, Some, None, refl, sym, ap, ◌∙◌, arith, subst, nat_eq, ◌⊎◌, inl, inr}
+use Rattle.std.proofs.Common.{◌≡◌, ℕ, zero, suc, Bool, true, false, cond, List, [], ◌∷◌, Some, refl, sym, ap, ◌∙◌, subst, nat_eq, ◌⊎◌, inl, inr}
 use Rattle.std.specs.Prelude.{slice_get, ◌&&◌, ◌||◌}
-use Rattle.std.specs.List.{AllByRecursion, list_any}
+use Rattle.std.specs.List.{AllByRecursion}
 use Rattle.std.proofs.lemmas.Bool.{eq-eqb, eqb-true}
-use Rattle.sml_types.specs.declared.types.Ty.{Ty}
-use Rattle.sml_types.specs.declared.types.TyVar.{TyVar}
 use Rattle.sml_types.specs.declared.types.TyForm.{TyForm}
 use Rattle.sml_types.specs.declared.tables.Equality.{Equality}
-use Rattle.sml_types.specs.declared.tables.Equality.TheVariants.{Never, Always, Parts}
-use Rattle.sml_types.specs.declared.tables.ConRow.{ConRow}
+use Rattle.sml_types.specs.declared.tables.Equality.TheVariants.{Never, Parts}
 use Rattle.sml_types.specs.declared.tables.TypeName.{TypeName}
 use Rattle.sml_types.specs.Tree.{Head, ArrowHead, FieldsHead, NameHead, Tree, Variable, App, NoParts, Part, inst, admits, by_equality, head_equality, name_equality}
 use Rattle.sml_types.specs.Forms.{tree}

@@ -4,3 +4,9 @@ mod CopySteps
 mod InstanceSteps
 mod InstanceLaw
 mod EqualityFacts
+mod Lists
+mod Slots
+mod Placed
+mod Meanings
+mod Forms
+mod WrittenSteps

@@ -8,6 +8,8 @@ pub mod given;
 pub mod instance;
 pub mod library;
 pub mod plain;
+mod segment;
+pub mod written;
 
 pub use library::{LibraryTypes, make_library};
 pub use plain::non_expansive;
