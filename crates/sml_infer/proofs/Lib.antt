@@ -10,3 +10,4 @@ mod Placed
 mod Meanings
 mod Forms
 mod WrittenSteps
+mod HeldFacts

@@ -4,3 +4,4 @@ pub mod Copies
 pub mod Instances
 pub mod Segments
 pub mod Written
+pub mod Held

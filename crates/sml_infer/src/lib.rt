@@ -5,6 +5,7 @@
 
 pub mod copy;
 pub mod given;
+pub mod held;
 pub mod instance;
 pub mod library;
 pub mod plain;
