@@ -77,11 +77,11 @@ first_or_rest : (P : ℕ → Type 0) (n m : ℕ) (b rest : Bool) → nat_eq n m 
 first_or_rest P n m true rest q h later e = subst P (sym (eqb-true n m q)) h
 first_or_rest P n m false rest q h later e = later e
 
-in_group : (P : ℕ → Type 0) (group : List ℕ) (n : ℕ) → AllByRecursion P group → is_in group n ≡ true → P n
+pub in_group : (P : ℕ → Type 0) (group : List ℕ) (n : ℕ) → AllByRecursion P group → is_in group n ≡ true → P n
 in_group P [] n h e = cc
 in_group P (m ∷ group) n h e = first_or_rest P n m (nat_eq n m) (is_in group n) refl h.0 (λ r. in_group P group n h.1 r) e
 
-all_members : (Q : ℕ → Type 0) (group : List ℕ) → ((n : ℕ) → is_in group n ≡ true → Q n) → AllByRecursion Q group
+pub all_members : (Q : ℕ → Type 0) (group : List ℕ) → ((n : ℕ) → is_in group n ≡ true → Q n) → AllByRecursion Q group
 all_members Q [] h = tt
 all_members Q (m ∷ group) h = (
   h m (ap (λ b. b || is_in group m) (eq-eqb m m refl)),

@@ -11,3 +11,4 @@ mod Meanings
 mod Forms
 mod WrittenSteps
 mod HeldFacts
+mod RoundFacts

@@ -5,3 +5,4 @@ pub mod Instances
 pub mod Segments
 pub mod Written
 pub mod Held
+pub mod Rounds

@@ -13,7 +13,7 @@ use sml_types::{Equality, Field, Ty, TyForm, TyVar, TypeName, Types};
 use smlc_base::NoMemory;
 use std::alloc::Global;
 
-fn held_at(first: u32, table: &[bool], ty: Ty) -> bool
+pub(crate) fn held_at(first: u32, table: &[bool], ty: Ty) -> bool
     requires { first ≤ ty.0 }
     ensures { result ≡ held_at first table.now ty.0 }
 {
@@ -113,7 +113,7 @@ pub fn covers(alloc: Global, types: &Types, vars: &[TyVar], ty: Ty) -> Result<bo
 }
 
 /// For each type from number `first` on whether it admits equality where its variables do. All parts of these types are among them.
-fn admitting(
+pub(crate) fn admitting(
     alloc: Global,
     types: &Types,
     names: &[TypeName],
