@@ -1,14 +1,11 @@
 -- The greatest choice of the datatypes that admit equality: a larger choice admits more, so what is struck out of all is in no choice that is allowed.
-use Rattle.std.proofs.Common.{◌≡◌, ℕ, zero, suc, ◌+◌, ◌<◌, Bool, true, false, cond, List, [], ◌∷◌, length, Option, Some, None, refl, sym, ap, ◌∙◌, arith, subst, nat_eq, ◌⊎◌, inl, inr}
+use Rattle.std.proofs.Common.{◌≡◌, ℕ, zero, suc, Bool, true, false, cond, List, [], ◌∷◌, Some, refl, sym, ap, ◌∙◌, subst, nat_eq, ◌⊎◌, inl, inr}
 use Rattle.std.specs.Prelude.{slice_get, ◌&&◌, ◌||◌}
-use Rattle.std.specs.List.{AllByRecursion, list_any}
+use Rattle.std.specs.List.{AllByRecursion}
 use Rattle.std.proofs.lemmas.Bool.{eq-eqb, eqb-true}
-use Rattle.sml_types.specs.declared.types.Ty.{Ty}
-use Rattle.sml_types.specs.declared.types.TyVar.{TyVar}
 use Rattle.sml_types.specs.declared.types.TyForm.{TyForm}
 use Rattle.sml_types.specs.declared.tables.Equality.{Equality}
-use Rattle.sml_types.specs.declared.tables.Equality.TheVariants.{Never, Always, Parts}
-use Rattle.sml_types.specs.declared.tables.ConRow.{ConRow}
+use Rattle.sml_types.specs.declared.tables.Equality.TheVariants.{Never, Parts}
 use Rattle.sml_types.specs.declared.tables.TypeName.{TypeName}
 use Rattle.sml_types.specs.Tree.{Head, ArrowHead, FieldsHead, NameHead, Tree, Variable, App, NoParts, Part, inst, admits, by_equality, head_equality, name_equality}
 use Rattle.sml_types.specs.Forms.{tree}
@@ -80,11 +77,11 @@ first_or_rest : (P : ℕ → Type 0) (n m : ℕ) (b rest : Bool) → nat_eq n m 
 first_or_rest P n m true rest q h later e = subst P (sym (eqb-true n m q)) h
 first_or_rest P n m false rest q h later e = later e
 
-in_group : (P : ℕ → Type 0) (group : List ℕ) (n : ℕ) → AllByRecursion P group → is_in group n ≡ true → P n
+pub in_group : (P : ℕ → Type 0) (group : List ℕ) (n : ℕ) → AllByRecursion P group → is_in group n ≡ true → P n
 in_group P [] n h e = cc
 in_group P (m ∷ group) n h e = first_or_rest P n m (nat_eq n m) (is_in group n) refl h.0 (λ r. in_group P group n h.1 r) e
 
-all_members : (Q : ℕ → Type 0) (group : List ℕ) → ((n : ℕ) → is_in group n ≡ true → Q n) → AllByRecursion Q group
+pub all_members : (Q : ℕ → Type 0) (group : List ℕ) → ((n : ℕ) → is_in group n ≡ true → Q n) → AllByRecursion Q group
 all_members Q [] h = tt
 all_members Q (m ∷ group) h = (
   h m (ap (λ b. b || is_in group m) (eq-eqb m m refl)),

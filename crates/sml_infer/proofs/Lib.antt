@@ -4,3 +4,11 @@ mod CopySteps
 mod InstanceSteps
 mod InstanceLaw
 mod EqualityFacts
+mod Lists
+mod Slots
+mod Placed
+mod Meanings
+mod Forms
+mod WrittenSteps
+mod HeldFacts
+mod RoundFacts

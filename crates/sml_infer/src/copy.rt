@@ -14,7 +14,7 @@ use sml_types::{Field, Ty, TyForm, Types};
 use smlc_base::{NoMemory, Row};
 use std::alloc::Global;
 
-fn label(alloc: Global, lab: &Lab) -> Result<Lab, NoMemory>
+pub(crate) fn label(alloc: Global, lab: &Lab) -> Result<Lab, NoMemory>
     ensures { IfOk result (λ copy. copy ≡ lab.now) }
 {
     match lab {

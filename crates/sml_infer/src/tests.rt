@@ -1,5 +1,6 @@
 //! Each call that takes memory, with ample memory.
 
+use crate::held::covers;
 use crate::instance::instance;
 use crate::library::make_library;
 use crate::plain::non_expansive;
@@ -39,5 +40,16 @@ fn the_argument_of_cons_is_copied(rt: HostRuntime) -> Result<(), Fail> {
     let copy = instance(rt.alloc(), &mut types, &mut next, 0, Ty(2), &vars)?;
     assert_eq!(rt; copy, Ty(5));
     assert_eq!(rt; next, 9);
+    Ok(())
+}
+
+// The argument of `::` has the parameter of `list`, and no other variable.
+#[test]
+fn the_argument_of_cons_is_covered(rt: HostRuntime) -> Result<(), Fail> {
+    let library = make_library(rt.alloc(), 7)?;
+    let vars = [TyVar { num: 7, eq: false }];
+    assert!(rt; covers(rt.alloc(), &library.types, &vars, Ty(2))?);
+    let others = [TyVar { num: 7, eq: true }];
+    assert!(rt; !covers(rt.alloc(), &library.types, &others, Ty(2))?);
     Ok(())
 }
