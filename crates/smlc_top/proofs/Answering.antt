@@ -4,11 +4,12 @@ use Rattle.std.proofs.lemmas.List.{append-nil}
 use Rattle.smlc_edge.specs.Edge.{Rose, Fails, Files}
 use Rattle.smlc_edge.proofs.Gained.{gains_none, gains_more}
 use Rattle.smlc_top.specs.declared.outcome.Outcome.{Outcome}
-use Rattle.smlc_top.specs.Job.{Job, CompileFile, IsAsked, file_of, target_of}
+use Rattle.smlc_top.specs.Job.{Job, CompileFiles, IsAsked, files_of, target_of}
 use Rattle.smlc_top.specs.Outcome.{line_of, status_of}
-use Rattle.smlc_top.specs.Texts.{memory_line, store_line, input_line, out_line}
+use Rattle.smlc_top.specs.Texts.{name_at, memory_line, store_line, input_line, out_line}
+use Rattle.smlc_top.specs.Held.{KeepsFiles}
 use Rattle.smlc_top.specs.Write.{IsPrefix, Said}
-use Rattle.smlc_top.specs.Clause.{Answers, answered, plain, not_loaded, not_saved, input_failed, out_failed, err_failed, untold, untold_plain, Comes, Plain, no_memory, KeepsFiles, Tally, IsSame, Came, Performed, fine, want, load_failed, save_failed, read_failed, write_failed, error_failed}
+use Rattle.smlc_top.specs.Clause.{Answers, answered, plain, not_loaded, not_saved, input_failed, out_failed, err_failed, untold, untold_plain, Comes, Plain, no_memory, Tally, IsSame, Came, Performed, fine, want, load_failed, save_failed, read_failed, write_failed, error_failed}
 
 -- counts that stand still, and one that rises later
 same_now : (before now : Tally) (err : ℕ) → IsSame before now → err ≡ now.err → IsSame before (record now { err = err })
@@ -63,17 +64,18 @@ module _ (words : List (List ℕ)) (told files : Option Files) (before now : Tal
     finely line status c same front (inr h) =
         with_status 5 h.0 (untold job merr line wrote status asked (rose_last before now e' same h.1) c front refl)
 
-    pub performed : (o : Outcome) → Performed job told files before now input out merr o → IsPrefix wrote (line_of (file_of job) (target_of job) o) →
-        How (status_of o) wrote (line_of (file_of job) (target_of job) o) now.err e' r → Says r
-    performed _ (fine o c same) front how = finely (line_of (file_of job) (target_of job) o) (status_of o) c same front how
+    pub performed : (o : Outcome) → Performed job told files before now input out merr o → IsPrefix wrote (line_of (files_of job) (target_of job) o) →
+        How (status_of o) wrote (line_of (files_of job) (target_of job) o) now.err e' r → Says r
+    performed _ (fine o c same) front how = finely (line_of (files_of job) (target_of job) o) (status_of o) c same front how
     performed _ (want none no_err keeps same) front how = plainly memory_line 6 no_memory none no_err keeps same front how
-    performed _ (load_failed f none no_err keeps) front how =
-        with_status 5 (five wrote (store_line (file_of job)) now.err e' r how) (not_loaded job asked f.1 none keeps (front_of (store_line (file_of job)) merr wrote no_err front))
-    performed _ (save_failed name target is f none no_err changes) front how =
-        let asked' : IsAsked words (CompileFile name target) = subst (λ (j : Job). IsAsked words j) is asked in
+    performed _ (load_failed i upto f none no_err keeps) front how =
+        let line = store_line (name_at (files_of job) i) in
+        with_status 5 (five wrote line now.err e' r how) (not_loaded job i asked upto f.1 none keeps (front_of line merr wrote no_err front))
+    performed _ (save_failed names target is f none no_err changes) front how =
+        let asked' : IsAsked words (CompileFiles names target) = subst (λ (j : Job). IsAsked words j) is asked in
         let same_target : target_of job ≡ target = ap target_of is in
         let front' : IsPrefix wrote (store_line target) = subst (λ (t : List ℕ). IsPrefix wrote (store_line t)) same_target front in
-        with_status 5 (five wrote (store_line (target_of job)) now.err e' r how) (not_saved name target asked' f.1 none changes (front_of (store_line target) merr wrote no_err front'))
+        with_status 5 (five wrote (store_line (target_of job)) now.err e' r how) (not_saved names target asked' f.1 none changes (front_of (store_line target) merr wrote no_err front'))
     performed _ (read_failed f midway keeps) front how =
         with_status 5 (five wrote input_line now.err e' r how) (input_failed job merr wrote asked f.1 midway keeps front refl)
     performed _ (write_failed f midway keeps) front how =
@@ -85,7 +87,7 @@ module _ (words : List (List ℕ)) (told files : Option Files) (before now : Tal
 
 -- what was performed, and the report of it
 pub reported : (words : List (List ℕ)) (told files : Option Files) (job : Job) (before now : Tally) (input : Option (List ℕ)) (e' r : ℕ) (out out' err err' err'' : Option (List ℕ)) (o : Outcome) → IsAsked words job →
-    Came out out' err err' (λ w e. Performed job told files before now input w e o) → Said (line_of (file_of job) (target_of job) o) (status_of o) r now.err e' err' err'' →
+    Came out out' err err' (λ w e. Performed job told files before now input w e o) → Said (line_of (files_of job) (target_of job) o) (status_of o) r now.err e' err' err'' →
     Came out out' err err'' (λ w e. Answers words told files before (record now { err = e' }) input w e r)
 reported words told files job before now input e' r out out' err err' err'' o asked h s = record {
   wrote = h.wrote;

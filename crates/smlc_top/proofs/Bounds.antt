@@ -1,4 +1,4 @@
--- how long the ELF file of print lines is
+-- how long the ELF file of prints is
 use Rattle.std.proofs.Common.{◌≡◌, ℕ, ◌+◌, ◌≤◌, List, [], ◌∷◌, ◌++◌, length, arith, refl, ap, ◌∙◌, length-append}
 use Rattle.elf_static.specs.declared.image.Segment.{Segment}
 use Rattle.elf_static.specs.declared.image.Image.{Image}

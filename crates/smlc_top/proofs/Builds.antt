@@ -1,12 +1,17 @@
--- a file that was compiled or refused
+-- files that were compiled or refused
 use Rattle.std.proofs.Common.{List, ℕ}
 use Rattle.smlc_base.specs.declared.refusal.Refusal.{Refusal}
 use Rattle.smlc_top.specs.declared.build.Built.{Built}
 use Rattle.smlc_top.specs.declared.build.Built.TheVariants.{Elf, Refused, NoMemory}
-use Rattle.smlc_top.specs.Build.{IsBuilt, IsRefusal}
-use Rattle.smlc_top.specs.Clause.{IsRefused}
+use Rattle.smlc_top.specs.Build.{IsBuilt, IsMade, IsRefusal}
+use Rattle.smlc_top.specs.Clause.{Means, IsRefused}
 
-pub refused_built : (name file : List ℕ) (refusal : Refusal) (b : Built) → IsRefused file refusal → IsRefusal name refusal b → IsBuilt name file b
-refused_built name file refusal (Refused line) is h = (refusal, is, h)
-refused_built name file refusal NoMemory is h = tt
-refused_built name file refusal (Elf bytes) is h = absurd h
+pub refused_built : (names files : List (List ℕ)) (refusal : Refusal) (b : Built) → IsRefused files refusal → IsRefusal names refusal b → IsBuilt names files b
+refused_built names files refusal (Refused line) is h = (refusal, is, h)
+refused_built names files refusal NoMemory is h = tt
+refused_built names files refusal (Elf bytes) is h = absurd h
+
+pub made_built : (names files : List (List ℕ)) (text : List ℕ) (b : Built) → Means files text → IsMade text b → IsBuilt names files b
+made_built names files text (Elf bytes) means h = (text, means, h)
+made_built names files text NoMemory means h = tt
+made_built names files text (Refused line) means h = absurd h

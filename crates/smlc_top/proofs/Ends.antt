@@ -9,7 +9,7 @@ use Rattle.elf_static.specs.declared.image.Image.{Image}
 use Rattle.elf_static.specs.Layout.{round_up, writable_segment}
 use Rattle.rv_machine.specs.Memory.{memory_of, areas_of}
 use Rattle.smlc_top.specs.Prints.{begun, Prints}
-use Rattle.smlc_top.specs.Reader.{IsPositive, total}
+use Rattle.smlc_top.specs.Code.{IsPositive, total}
 use Rattle.smlc_top.specs.Write.{IsPrefix}
 use Rattle.smlc_top.proofs.Reach.{reaches_end, Wrote, behaviour-more, behaviour-ended}
 use Rattle.smlc_top.proofs.Fetch.{At, memory_areas}

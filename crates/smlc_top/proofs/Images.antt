@@ -1,4 +1,4 @@
--- the image of print lines, from its segments
+-- the image of prints, from its segments
 use Rattle.std.proofs.Common.{◌≡◌, ℕ, ◌+◌, pos, List, [], ◌∷◌, length, sym, ap, ◌∙◌}
 use Rattle.rv_isa.specs.declared.table.Op.TheVariants.{Lui}
 use Rattle.rv_isa.specs.Word.{ins}

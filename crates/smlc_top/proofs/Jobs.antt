@@ -1,5 +1,5 @@
 -- jobs from their parts
-use Rattle.std.proofs.Common.{◌≡◌, ℕ, ◌+◌, ◌*◌, List, [], length, Option, Some, Ok, Err, refl, sym, subst}
+use Rattle.std.proofs.Common.{◌≡◌, ℕ, ◌+◌, ◌*◌, ◌≤◌, List, [], ◌∷◌, length, Option, Some, Ok, Err, refl, sym, subst, ap, arith}
 use Rattle.std.specs.declared.vec.Vec.{Vec}
 use Rattle.std.specs.declared.alloc.Global.{Global}
 use Rattle.smlc_base.specs.declared.refusal.Refusal.{Refusal}
@@ -8,18 +8,20 @@ use Rattle.smlc_edge.specs.Edge.{Files, Saves}
 use Rattle.elf_static.specs.declared.image.Image.{Image}
 use Rattle.elf_static.specs.Reading.{meaning_of}
 use Rattle.rv_machine.specs.Run.{Mend, Runs, Exited, Trapped}
-use Rattle.smlc_words.specs.Asks.{Asked, Asks}
+use Rattle.smlc_words.specs.Given.{Given}
+use Rattle.smlc_words.specs.Asks.{Asked, Asks, IsFor, Run, Compile, Exec}
 use Rattle.smlc_words.proofs.Once.{asks_once}
 use Rattle.smlc_top.specs.declared.outcome.Outcome.{Outcome}
 use Rattle.smlc_top.specs.declared.outcome.Outcome.TheVariants as outcome
 use Rattle.std.specs.Prelude.{IfSome, IfNone, None}
 use Rattle.smlc_top.specs.declared.job.Job.{Job as Held}
-use Rattle.smlc_top.specs.Job.{Job, job_of, RunFile, CompileFile, ExecFile, IsAsked, Allows}
+use Rattle.smlc_top.specs.Job.{Job, job_of, RunFiles, CompileFiles, ExecFile, IsAsked, Allows, files_of}
 use Rattle.smlc_top.specs.Outcome.{ended_outcome}
-use Rattle.smlc_top.specs.Texts.{refusal_line}
+use Rattle.smlc_top.specs.Texts.{refused_line}
 use Rattle.smlc_top.specs.Build.{IsElfOf}
 use Rattle.smlc_top.specs.Execute.{RanImage, exited, went_on, trapped, had_no_memory, input_fault, out_fault, err_fault, Executed, of_image, not_read, read_memory}
-use Rattle.smlc_top.specs.Clause.{Means, IsRefused, Compiles, IsHeld, KeepsFiles, ChangesOnly, HasSaved, Tally, IsSame, IsRun, IsMidway, Comes, ran, stopped, run_refused, compile_refused, exec_exited, exec_stopped, exec_trapped, exec_not_elf, Midway, running, executing, Performed, fine, want, read_failed, write_failed, error_failed}
+use Rattle.smlc_top.specs.Held.{IsHeld, AreHeld, KeepsFiles, ChangesOnly, HasSaved}
+use Rattle.smlc_top.specs.Clause.{Means, IsRefused, Compiles, Tally, IsSame, IsRun, IsMidway, Comes, ran, stopped, run_refused, compile_refused, exec_exited, exec_stopped, exec_trapped, exec_not_elf, Midway, running, executing, Performed, fine, want, read_failed, write_failed, error_failed}
 use Rattle.smlc_top.proofs.Ends.{Concludes, prints_concludes}
 
 -- ---- what the words ask
@@ -40,6 +42,21 @@ pub no_job : (words : List (List ℕ)) (a : Asked) → Asks words a → (o : Opt
 no_job words a asks None h = none_asked words a asks h
 no_job words a asks (Some j) h = tt
 
+-- a job that is asked for has at most 256 files
+few_files : (name : List ℕ) (g : Given) (a : Asked) (job : Job) → IsFor name g a → Allows a job → length (files_of job) ≤ 256
+few_files name g (Run files None given) (RunFiles names steps) h allows = let few = h.1.1 in omega (arith, ap length allows.0, few)
+few_files name g (Compile files out None) (CompileFiles names target) h allows = let few = h.1.1 in omega (arith, ap length allows.0, few)
+few_files name g (Exec elf given) (ExecFile n steps) h allows = omega arith
+few_files name g a job h allows = absurd allows
+
+few_asks : (words : List (List ℕ)) (a : Asked) (job : Job) → Asks words a → Allows a job → length (files_of job) ≤ 256
+few_asks [] a job asks allows = absurd asks
+few_asks (program ∷ []) a job asks allows = absurd asks
+few_asks (program ∷ name ∷ words) a job asks allows = few_files name asks.0 a job asks.2 allows
+
+pub few_asked : (words : List (List ℕ)) (job : Job) → IsAsked words job → length (files_of job) ≤ 256
+few_asked words job h = few_asks words h.asked job h.asks h.allows
+
 -- ---- `run`
 
 run_concludes : (text : List ℕ) (image : Image) (input : Option (List ℕ)) (steps : ℕ) (m : Mend) (w e : List ℕ) → Compiles text image → IsRun image input steps m w e → Concludes m text w e
@@ -48,38 +65,38 @@ run_concludes text image input steps m w e compiles r = prints_concludes image t
 midway_concludes : (text : List ℕ) (image : Image) (input : Option (List ℕ)) (w e : List ℕ) → Compiles text image → IsMidway image input w e → Concludes Runs text w e
 midway_concludes text image input w e compiles r = prints_concludes image text (64 * (1 + length text)) input Runs r.count r.cuts w e compiles.prints r.goes_on r.wrote r.wrote_err
 
-module _ (name : List ℕ) (told files : Option Files) (steps : ℕ) (file text : List ℕ) (image : Image) (t t' : Tally) (input : Option (List ℕ)) (w e : List ℕ)
-    (held : IsHeld told name file) (keeps : KeepsFiles told files) (means : Means file text) (compiles : Compiles text image) where
+module _ (names : List (List ℕ)) (told kept : Option Files) (steps : ℕ) (files : List (List ℕ)) (text : List ℕ) (image : Image) (t t' : Tally) (input : Option (List ℕ)) (w e : List ℕ)
+    (held : AreHeld told names files) (keeps : KeepsFiles told kept) (means : Means files text) (compiles : Compiles text image) where
   abbrev Done : Outcome → Type 0
-  Done o = Performed (RunFile name steps) told files t t' input w e o
+  Done o = Performed (RunFiles names steps) told kept t t' input w e o
 
-  midway : IsMidway image input w e → Midway told input w e (RunFile name steps)
-  midway m = let c = midway_concludes text image input w e compiles m in running name steps file text image held means compiles m c.0 c.1
+  midway : IsMidway image input w e → Midway told input w e (RunFiles names steps)
+  midway m = let c = midway_concludes text image input w e compiles m in running names steps files text image held means compiles m c.0 c.1
 
   run_image : (o : Outcome) → RanImage image steps t t' input w e o → Done (ended_outcome o)
   run_image _ (exited status r same) =
       let c = run_concludes text image input steps (Exited status) w e compiles r in
       let r' : IsRun image input steps (Exited 0) w e = subst (λ (n : ℕ). IsRun image input steps (Exited n) w e) c.0 r in
       let r'' : IsRun image input steps (Exited 0) w [] = subst (λ (x : List ℕ). IsRun image input steps (Exited 0) w x) c.2 r' in
-      fine outcome.Done (ran name steps file image held (subst (λ (x : List ℕ). Means file x) (sym c.1) means) (subst (λ (x : List ℕ). Compiles x image) (sym c.1) compiles) r'' c.2 keeps) same
+      fine outcome.Done (ran names steps files image held (subst (λ (x : List ℕ). Means files x) (sym c.1) means) (subst (λ (x : List ℕ). Compiles x image) (sym c.1) compiles) r'' c.2 keeps) same
   run_image _ (went_on r same) =
       let c = run_concludes text image input steps Runs w e compiles r in
       let r' : IsRun image input steps Runs w [] = subst (λ (x : List ℕ). IsRun image input steps Runs w x) c.1 r in
-      fine (outcome.Steps steps) (stopped name steps file text image held means compiles r' c.0 c.1 keeps) same
+      fine (outcome.Steps steps) (stopped names steps files text image held means compiles r' c.0 c.1 keeps) same
   run_image _ (trapped pc word r same) = absurd (run_concludes text image input steps (Trapped pc word) w e compiles r)
   run_image _ (had_no_memory p q same) = want p q keeps same
   run_image _ (input_fault f m) = read_failed f (midway m) keeps
   run_image _ (out_fault f m) = write_failed f (midway m) keeps
   run_image _ (err_fault f m) = error_failed f (midway m) keeps
 
-pub run_executed : (name : List ℕ) (told files : Option Files) (steps : ℕ) (file text bytes : List ℕ) (t t' : Tally) (input : Option (List ℕ)) (w e : List ℕ) (o : Outcome) → IsHeld told name file → KeepsFiles told files →
-    Means file text → IsElfOf text bytes → Executed bytes steps t t' input w e o → Performed (RunFile name steps) told files t t' input w e (ended_outcome o)
-run_executed name told files steps file text bytes t t' input w e _ held keeps means made (of_image image o read h) =
+pub run_executed : (names : List (List ℕ)) (told kept : Option Files) (steps : ℕ) (files : List (List ℕ)) (text bytes : List ℕ) (t t' : Tally) (input : Option (List ℕ)) (w e : List ℕ) (o : Outcome) → AreHeld told names files → KeepsFiles told kept →
+    Means files text → IsElfOf text bytes → Executed bytes steps t t' input w e o → Performed (RunFiles names steps) told kept t t' input w e (ended_outcome o)
+run_executed names told kept steps files text bytes t t' input w e _ held keeps means made (of_image image o read h) =
     let a : meaning_of bytes ≡ Ok made.image = made.read in
     let same : made.image ≡ image = cc in
-    run_image name told files steps file text image t t' input w e held keeps means (subst (λ (i : Image). Compiles text i) same made.compiles) o h
-run_executed name told files steps file text bytes t t' input w e _ held keeps means made (not_read kind at bad p q same) = let a : meaning_of bytes ≡ Ok made.image = made.read in absurd (cc)
-run_executed name told files steps file text bytes t t' input w e _ held keeps means made (read_memory p q same) = want p q keeps same
+    run_image names told kept steps files text image t t' input w e held keeps means (subst (λ (i : Image). Compiles text i) same made.compiles) o h
+run_executed names told kept steps files text bytes t t' input w e _ held keeps means made (not_read kind at bad p q same) = let a : meaning_of bytes ≡ Ok made.image = made.read in absurd (cc)
+run_executed names told kept steps files text bytes t t' input w e _ held keeps means made (read_memory p q same) = want p q keeps same
 
 -- ---- `exec`
 
@@ -111,12 +128,12 @@ changes_only told loaded saved target bytes e keeps saves = λ files t. let s = 
 
 -- ---- refusals
 
-pub run_said : (name : List ℕ) (told files : Option Files) (steps : ℕ) (file : List ℕ) (line : Vec ℕ Global) (t t' : Tally) (input : Option (List ℕ)) → IsHeld told name file → KeepsFiles told files →
-    (refusal : Refusal) × IsRefused file refusal × (line.items ≡ refusal_line name refusal) → IsSame t t' → Performed (RunFile name steps) told files t t' input [] [] (outcome.Refused line)
-run_said name told files steps file line t t' input held keeps h same =
-    fine (outcome.Refused line) (subst (λ (x : List ℕ). Comes told files input [] [] (RunFile name steps) x 2) (sym h.2) (run_refused name steps file h.0 held h.1 refl refl keeps)) same
+pub run_said : (names : List (List ℕ)) (told kept : Option Files) (steps : ℕ) (files : List (List ℕ)) (line : Vec ℕ Global) (t t' : Tally) (input : Option (List ℕ)) → AreHeld told names files → KeepsFiles told kept →
+    (refusal : Refusal) × IsRefused files refusal × (line.items ≡ refused_line names refusal) → IsSame t t' → Performed (RunFiles names steps) told kept t t' input [] [] (outcome.Refused line)
+run_said names told kept steps files line t t' input held keeps h same =
+    fine (outcome.Refused line) (subst (λ (x : List ℕ). Comes told kept input [] [] (RunFiles names steps) x 2) (sym h.2) (run_refused names steps files h.0 held h.1 refl refl keeps)) same
 
-pub compile_said : (name target : List ℕ) (told files : Option Files) (file : List ℕ) (line : Vec ℕ Global) (t t' : Tally) (input : Option (List ℕ)) → IsHeld told name file → KeepsFiles told files →
-    (refusal : Refusal) × IsRefused file refusal × (line.items ≡ refusal_line name refusal) → IsSame t t' → Performed (CompileFile name target) told files t t' input [] [] (outcome.Refused line)
-compile_said name target told files file line t t' input held keeps h same =
-    fine (outcome.Refused line) (subst (λ (x : List ℕ). Comes told files input [] [] (CompileFile name target) x 2) (sym h.2) (compile_refused name target file h.0 held h.1 refl refl keeps)) same
+pub compile_said : (names : List (List ℕ)) (target : List ℕ) (told kept : Option Files) (files : List (List ℕ)) (line : Vec ℕ Global) (t t' : Tally) (input : Option (List ℕ)) → AreHeld told names files → KeepsFiles told kept →
+    (refusal : Refusal) × IsRefused files refusal × (line.items ≡ refused_line names refusal) → IsSame t t' → Performed (CompileFiles names target) told kept t t' input [] [] (outcome.Refused line)
+compile_said names target told kept files line t t' input held keeps h same =
+    fine (outcome.Refused line) (subst (λ (x : List ℕ). Comes told kept input [] [] (CompileFiles names target) x 2) (sym h.2) (compile_refused names files target h.0 held h.1 refl refl keeps)) same

@@ -5,10 +5,8 @@ pub mod Exec
 pub mod Straight
 pub mod Ends
 pub mod Written
-pub mod Quoted
 pub mod Chain
 pub mod Loadable
-pub mod Lines
 pub mod Images
 pub mod Running
 pub mod Faults
@@ -17,3 +15,8 @@ pub mod Bounds
 pub mod Answering
 pub mod Jobs
 pub mod Single
+pub mod Nests
+pub mod Walks
+pub mod Held
+pub mod Fronts
+pub mod Pieces

@@ -1,59 +1,64 @@
--- a file has one meaning
-use Rattle.std.proofs.Common.{◌≡◌, ℕ, zero, suc, ◌<◌, ◌≤◌, List, [], ◌∷◌, ◌++◌, length, arith, refl, sym, ap, subst, ◌∙◌}
+-- a bare tree has one meaning
+use Rattle.std.proofs.Common.{◌≡◌, ℕ, List, [], ◌∷◌, ◌++◌, Some, refl, sym, ap, subst, ◌∙◌}
+use Rattle.std.specs.Prelude.{slice_get}
 use Rattle.smlc_base.specs.declared.place.Place.{Place}
-use Rattle.smlc_base.specs.declared.refusal.Refusal.{Refusal}
-use Rattle.smlc_base.specs.declared.refusal.Refusal.TheVariants.{NotInSubset, TooLong}
-use Rattle.smlc_base.specs.declared.refusal.Banned.TheVariants.{Later}
-use Rattle.smlc_top.specs.Form.{IsLine, lines_of, LinesMean, StopsAt}
-use Rattle.smlc_top.specs.Clause.{most, Means, IsRefused}
+use Rattle.sml_tree.specs.declared.bare.Bare.{Bare}
+use Rattle.sml_tree.specs.declared.bare.Node.TheVariants as node
+use Rattle.smlc_top.specs.Plain.{IsPrint, Says, ends, goes_on, StopsAt, here, behind}
 use Rattle.smlc_top.specs.Laws.{OneMeaning}
-use Rattle.smlc_top.proofs.Lines.{line_complete}
 
-one_line : (line t t' : List ℕ) → IsLine line t → IsLine line t' → t ≡ t'
-one_line line t t' p q = let a = line_complete line t p in let b = line_complete line t' q in cc
+module _ (p : Bare) where
+  one_print : (d : ℕ) (text text' : List ℕ) → IsPrint p d text → IsPrint p d text' → text ≡ text'
+  one_print d text text' x y =
+      let b : x.binding ≡ y.binding = cc (x.binds, y.binds) in
+      let right : slice_get p.nodes x.binding.right ≡ slice_get p.nodes y.binding.right = ap (λ z. slice_get p.nodes z.right) b in
+      let argument : x.argument ≡ y.argument = cc (x.applies, y.applies, right) in
+      let constant : slice_get p.nodes x.argument ≡ slice_get p.nodes y.argument = ap (λ z. slice_get p.nodes z) argument in
+      let number : x.number ≡ y.number = cc (x.constant, y.constant, constant) in
+      let spelled : slice_get p.texts x.number ≡ slice_get p.texts y.number = ap (λ z. slice_get p.texts z) number in
+      cc (x.spelled, y.spelled, spelled)
 
-one_text : (lines : List (List ℕ)) (t t' : List ℕ) → LinesMean lines t → LinesMean lines t' → t ≡ t'
-one_text [] t t' p q = p ∙ sym q
-one_text (line ∷ lines) t t' p q =
-    let first : p.0 ≡ q.0 = one_line line p.0 q.0 p.2 q.2 in
-    let rest : p.1 ≡ q.1 = one_text lines p.1 q.1 p.3 q.3 in
-    p.4 ∙ ap (λ (x : List ℕ). x ++ p.1) first ∙ ap (λ (x : List ℕ). q.0 ++ x) rest ∙ sym q.4
+  one_let : (i d d' rest rest' : ℕ) → slice_get p.nodes i ≡ Some (node.Let d rest) → slice_get p.nodes i ≡ Some (node.Let d' rest') → (d ≡ d') × (rest ≡ rest')
+  one_let i d d' rest rest' x y = (cc, cc)
 
-no_text : (lines : List (List ℕ)) (n : ℕ) (t : List ℕ) → StopsAt n lines → LinesMean lines t → ⊥
-no_text [] n t s m = s
-no_text (line ∷ lines) zero t s m = s m.0 m.2
-no_text (line ∷ lines) (suc n) t s m = no_text lines n m.1 s.1 m.3
+  one_text : (i : ℕ) (text text' : List ℕ) → Says p i text → Says p i text' → text ≡ text'
+  one_text i _ _ (ends _ x) (ends _ y) = refl
+  one_text i _ text' (ends _ x) (goes_on _ d rest first more _ y print says e) = absurd (cc)
+  one_text i text _ (goes_on _ d rest first more _ x print says e) (ends _ y) = absurd (cc)
+  one_text i text text' (goes_on _ d rest first more _ x print says e) (goes_on _ d' rest' first' more' _ y print' says' e') =
+      let same = one_let i d d' rest rest' x y in
+      let print'' : IsPrint p d first' = subst (λ (k : ℕ). IsPrint p k first') (sym same.0) print' in
+      let says'' : Says p rest more' = subst (λ (k : ℕ). Says p k more') (sym same.1) says' in
+      e ∙ ap (λ (x : List ℕ). x ++ more) (one_print d first first' print print'') ∙ ap (λ (x : List ℕ). first' ++ x) (one_text rest more more' says says'') ∙ sym e'
 
-one_stop : (lines : List (List ℕ)) (n m : ℕ) → StopsAt n lines → StopsAt m lines → n ≡ m
-one_stop [] n m s t = absurd s
-one_stop (line ∷ lines) zero zero s t = refl
-one_stop (line ∷ lines) zero (suc m) s t = absurd (s t.0.0 t.0.1)
-one_stop (line ∷ lines) (suc n) zero s t = absurd (t s.0.0 s.0.1)
-one_stop (line ∷ lines) (suc n) (suc m) s t = ap suc (one_stop lines n m s.1 t.1)
+  one_place : (i : ℕ) (place place' : Place) → StopsAt p i place → StopsAt p i place' → place ≡ place'
+  one_place i place place' (here _ d rest _ x never at) (here _ d' rest' _ y never' at') =
+      let same = one_let i d d' rest rest' x y in
+      let at'' : slice_get p.places d ≡ Some place' = subst (λ (k : ℕ). slice_get p.places k ≡ Some place') (sym same.0) at' in
+      cc
+  one_place i place place' (here _ d rest _ x never at) (behind _ d' rest' first _ y print stops) =
+      let same = one_let i d d' rest rest' x y in
+      absurd (never first (subst (λ (k : ℕ). IsPrint p k first) (sym same.0) print))
+  one_place i place place' (behind _ d rest first _ x print stops) (here _ d' rest' _ y never at) =
+      let same = one_let i d d' rest rest' x y in
+      absurd (never first (subst (λ (k : ℕ). IsPrint p k first) same.0 print))
+  one_place i place place' (behind _ d rest first _ x print stops) (behind _ d' rest' first' _ y print' stops') =
+      let same = one_let i d d' rest rest' x y in
+      one_place rest place place' stops (subst (λ (k : ℕ). StopsAt p k place') (sym same.1) stops')
 
--- the two refusals of a file, with their places
-data Refuses (file : List ℕ) : Refusal → Type 0 where
-  too_long : most < length file → Refuses file (TooLong (record { file = 1; line = 1; col = 1 }))
-  later : (n : ℕ) → length file ≤ most → StopsAt n (lines_of file) → Refuses file (NotInSubset (record { file = 1; line = suc n; col = 1 }) Later)
-
-refuses : (file : List ℕ) (r : Refusal) → IsRefused file r → Refuses file r
-refuses file (TooLong place) h = subst (λ (p : Place). Refuses file (TooLong p)) (sym h.1) (too_long h.0)
-refuses file (NotInSubset place Later) h = subst (λ (p : Place). Refuses file (NotInSubset p Later)) (sym h.1.2) (later h.1.0 h.0 h.1.1)
-refuses file _ h = absurd h
-
-same_refusal : (file : List ℕ) (r r' : Refusal) → Refuses file r → Refuses file r' → r ≡ r'
-same_refusal file _ _ (too_long p) (too_long q) = refl
-same_refusal file _ _ (too_long p) (later m q s) = absurd (omega arith)
-same_refusal file _ _ (later n p s) (too_long q) = absurd (omega arith)
-same_refusal file _ _ (later n p s) (later m q t) = ap (λ (k : ℕ). NotInSubset (record { file = 1; line = suc k; col = 1 }) Later) (one_stop (lines_of file) n m s t)
-
-no_refusal : (file text : List ℕ) (r : Refusal) → Means file text → Refuses file r → ⊥
-no_refusal file text _ m (too_long p) = let k = m.0 in omega arith
-no_refusal file text _ m (later n p s) = no_text (lines_of file) n text s m.1
+  not_both : (i : ℕ) (text : List ℕ) (place : Place) → Says p i text → StopsAt p i place → ⊥
+  not_both i _ place (ends _ x) (here _ d rest _ y never at) = absurd (cc)
+  not_both i _ place (ends _ x) (behind _ d rest first _ y print stops) = absurd (cc)
+  not_both i text place (goes_on _ d rest first more _ x print says e) (here _ d' rest' _ y never at) =
+      let same = one_let i d d' rest rest' x y in
+      never first (subst (λ (k : ℕ). IsPrint p k first) same.0 print)
+  not_both i text place (goes_on _ d rest first more _ x print says e) (behind _ d' rest' first' _ y print' stops) =
+      let same = one_let i d d' rest rest' x y in
+      not_both rest more place says (subst (λ (k : ℕ). StopsAt p k place) (sym same.1) stops)
 
 pub one_meaning : OneMeaning
 one_meaning = record {
-  texts = λ file t t' p q. one_text (lines_of file) t t' p.1 q.1;
-  refusals = λ file r r' p q. same_refusal file r r' (refuses file r p) (refuses file r' q);
-  either = λ file text r m p. no_refusal file text r m (refuses file r p);
+  texts = λ p text text' x y. one_text p 0 text text' x y;
+  places = λ p place place' x y. one_place p 0 place place' x y;
+  either = λ p text place x y. not_both p 0 text place x y;
 }

@@ -1,4 +1,4 @@
--- What becomes of a file.
+-- What becomes of files.
 use Rattle.std.specs.Prelude.{ℕ, ◌≡◌, ◌≤◌, List, length, Ok}
 use Rattle.smlc_base.specs.declared.refusal.Refusal.{Refusal}
 use Rattle.elf_static.specs.declared.image.Image.{Image}
@@ -6,7 +6,7 @@ use Rattle.elf_static.specs.Reading.{meaning_of}
 use Rattle.smlc_top.specs.declared.build.Built.{Built}
 use Rattle.smlc_top.specs.declared.build.Built.TheVariants.{Elf, Refused, NoMemory}
 use Rattle.smlc_top.specs.Clause.{Means, IsRefused, Compiles}
-use Rattle.smlc_top.specs.Texts.{refusal_line}
+use Rattle.smlc_top.specs.Texts.{refused_line}
 
 -- the bytes of an ELF file whose image prints the text
 pub record IsElfOf (text bytes : List ℕ) : Type 0 where
@@ -15,14 +15,20 @@ pub record IsElfOf (text bytes : List ℕ) : Type 0 where
   pub compiles : Compiles text image
   pub bounded : length bytes ≤ 8589934592
 
--- an ELF file that prints the file's text, the line of the file's refusal, or want of memory
-abbrev pub IsBuilt : List ℕ → List ℕ → Built → Type 0
-IsBuilt name file (Elf bytes) = (text : List ℕ) × Means file text × IsElfOf text bytes.items
-IsBuilt name file (Refused line) = (refusal : Refusal) × IsRefused file refusal × (line.items ≡ refusal_line name refusal)
-IsBuilt name file NoMemory = Unit {0}
+-- an ELF file that prints the files' text, the line of their refusal, or want of memory
+abbrev pub IsBuilt : List (List ℕ) → List (List ℕ) → Built → Type 0
+IsBuilt names files (Elf bytes) = (text : List ℕ) × Means files text × IsElfOf text bytes.items
+IsBuilt names files (Refused line) = (refusal : Refusal) × IsRefused files refusal × (line.items ≡ refused_line names refusal)
+IsBuilt names files NoMemory = Unit {0}
+
+-- an ELF file that prints the text, or want of memory
+abbrev pub IsMade : List ℕ → Built → Type 0
+IsMade text (Elf bytes) = IsElfOf text bytes.items
+IsMade text (Refused line) = ⊥
+IsMade text NoMemory = Unit {0}
 
 -- a refusal with its line, or want of memory
-abbrev pub IsRefusal : List ℕ → Refusal → Built → Type 0
-IsRefusal name refusal (Refused line) = line.items ≡ refusal_line name refusal
-IsRefusal name refusal NoMemory = Unit {0}
-IsRefusal name refusal (Elf bytes) = ⊥
+abbrev pub IsRefusal : List (List ℕ) → Refusal → Built → Type 0
+IsRefusal names refusal (Refused line) = line.items ≡ refused_line names refusal
+IsRefusal names refusal NoMemory = Unit {0}
+IsRefusal names refusal (Elf bytes) = ⊥

@@ -1,14 +1,14 @@
 -- What the program is asked to do.
-use Rattle.std.specs.Prelude.{ℕ, ◌≡◌, List, [], ◌∷◌, None, unwrap_or}
+use Rattle.std.specs.Prelude.{ℕ, ◌≡◌, List, [], ◌∷◌, map, All, None, unwrap_or}
 use Rattle.smlc_top.specs.declared.job.Job.{Job as Held}
 use Rattle.smlc_top.specs.declared.job.Job.TheVariants as held
 use Rattle.smlc_words.specs.Asks.{Asked, Asks, Compile, Run, Exec}
 
 pub data Job : Type 0 where
-  -- compile a file and run it, for so many instructions at the most
-  RunFile : (name : List ℕ) (steps : ℕ) → Job
-  -- compile a file, and save what was made under a name
-  CompileFile : (name target : List ℕ) → Job
+  -- compile files and run what was made, for so many instructions at the most
+  RunFiles : (names : List (List ℕ)) (steps : ℕ) → Job
+  -- compile files, and save what was made under a name
+  CompileFiles : (names : List (List ℕ)) (target : List ℕ) → Job
   -- run an ELF file, for so many instructions at the most
   ExecFile : (name : List ℕ) (steps : ℕ) → Job
 
@@ -16,10 +16,10 @@ pub data Job : Type 0 where
 abbrev pub default_steps : ℕ
 default_steps = 1000000000
 
--- Of what words may ask, one file is compiled or run; there is no arena yet.
+-- Of what words may ask, files are compiled or run; there is no arena yet.
 abbrev pub Allows : Asked → Job → Type 0
-Allows (Run (file ∷ []) None given) (RunFile name steps) = (name ≡ file) × (steps ≡ unwrap_or given default_steps)
-Allows (Compile (file ∷ []) out None) (CompileFile name target) = (name ≡ file) × (target ≡ out)
+Allows (Run files None given) (RunFiles names steps) = (names ≡ files) × (steps ≡ unwrap_or given default_steps)
+Allows (Compile files out None) (CompileFiles names target) = (names ≡ files) × (target ≡ out)
 Allows (Exec elf given) (ExecFile name steps) = (name ≡ elf) × (steps ≡ unwrap_or given default_steps)
 Allows _ _ = ⊥
 
@@ -29,26 +29,26 @@ pub record IsAsked (words : List (List ℕ)) (job : Job) : Type 0 where
   pub asks : Asks words asked
   pub allows : Allows asked job
 
--- the name that is loaded
-abbrev pub file_of : Job → List ℕ
-file_of (RunFile name steps) = name
-file_of (CompileFile name target) = name
-file_of (ExecFile name steps) = name
+-- the names that are loaded
+abbrev pub files_of : Job → List (List ℕ)
+files_of (RunFiles names steps) = names
+files_of (CompileFiles names target) = names
+files_of (ExecFile name steps) = name ∷ []
 
 -- the name that is saved, if any
 abbrev pub target_of : Job → List ℕ
-target_of (RunFile name steps) = []
-target_of (CompileFile name target) = target
+target_of (RunFiles names steps) = []
+target_of (CompileFiles names target) = target
 target_of (ExecFile name steps) = []
 
--- the store surely loads the file, and surely saves what is compiled, which has at most 2 ^ 33 bytes
+-- the store surely loads the files, and surely saves what is compiled, which has at most 2 ^ 33 bytes
 abbrev pub Serves : Job → (List ℕ → Type 0) → (List ℕ → ℕ → Type 0) → Type 0
-Serves (RunFile name steps) loads saves = loads name
-Serves (CompileFile name target) loads saves = loads name × saves target 8589934592
+Serves (RunFiles names steps) loads saves = All loads names
+Serves (CompileFiles names target) loads saves = All loads names × saves target 8589934592
 Serves (ExecFile name steps) loads saves = loads name
 
 -- the job that a value of the code is
 abbrev pub job_of : Held → Job
-job_of (held.Run file steps) = RunFile file.now steps
-job_of (held.Compile file target) = CompileFile file.now target.now
+job_of (held.Run files steps) = RunFiles (map (λ file. file.now) files.items) steps
+job_of (held.Compile files target) = CompileFiles (map (λ file. file.now) files.items) target.now
 job_of (held.Exec file steps) = ExecFile file.now steps

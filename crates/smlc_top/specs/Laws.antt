@@ -1,10 +1,11 @@
--- What the definitions of a file's meaning say together.
+-- What the definitions of a bare tree's meaning say together.
 use Rattle.std.specs.Prelude.{ℕ, ◌≡◌, List}
-use Rattle.smlc_base.specs.declared.refusal.Refusal.{Refusal}
-use Rattle.smlc_top.specs.Clause.{Means, IsRefused}
+use Rattle.smlc_base.specs.declared.place.Place.{Place}
+use Rattle.sml_tree.specs.declared.bare.Bare.{Bare}
+use Rattle.smlc_top.specs.Plain.{Says, StopsAt}
 
--- a file has at most one text, at most one refusal, and not both
+-- a tree says at most one text, stops at one place at most, and not both
 pub record OneMeaning : Type 0 where
-  pub texts : (file text text' : List ℕ) → Means file text → Means file text' → text ≡ text'
-  pub refusals : (file : List ℕ) (r r' : Refusal) → IsRefused file r → IsRefused file r' → r ≡ r'
-  pub either : (file text : List ℕ) (r : Refusal) → Means file text → IsRefused file r → ⊥
+  pub texts : (p : Bare) (text text' : List ℕ) → Says p 0 text → Says p 0 text' → text ≡ text'
+  pub places : (p : Bare) (place place' : Place) → StopsAt p 0 place → StopsAt p 0 place' → place ≡ place'
+  pub either : (p : Bare) (text : List ℕ) (place : Place) → Says p 0 text → StopsAt p 0 place → ⊥

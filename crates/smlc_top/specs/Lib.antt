@@ -1,10 +1,13 @@
-pub mod Form
-pub mod Reader
+pub mod Front
+pub mod Plain
 pub mod Code
+pub mod Reading
 pub mod Prints
 pub mod Texts
 pub mod Write
 pub mod Job
+pub mod Held
+pub mod Load
 pub mod Outcome
 pub mod Clause
 pub mod Build

@@ -2,22 +2,22 @@
 use Rattle.std.specs.Prelude.{ℕ, List, [], Bool, true, false}
 use Rattle.smlc_top.specs.declared.outcome.Outcome.{Outcome}
 use Rattle.smlc_top.specs.declared.outcome.Outcome.TheVariants.{Done, Exited, Refused, Steps, Trapped, NotElf, NoMemory, LoadFault, SaveFault, InputFault, OutFault, ErrFault}
-use Rattle.smlc_top.specs.Texts.{memory_line, store_line, input_line, out_line, steps_line, exit_line, elf_line, trap_line}
+use Rattle.smlc_top.specs.Texts.{name_at, memory_line, store_line, input_line, out_line, steps_line, exit_line, elf_line, trap_line}
 
--- the line, where this file was to be loaded and this name to be saved
-abbrev pub line_of : List ℕ → List ℕ → Outcome → List ℕ
-line_of file target Done = []
-line_of file target (Exited status) = exit_line status
-line_of file target (Refused line) = line.items
-line_of file target (Steps n) = steps_line n
-line_of file target (Trapped pc word) = trap_line pc word
-line_of file target (NotElf kind at) = elf_line kind at
-line_of file target NoMemory = memory_line
-line_of file target LoadFault = store_line file
-line_of file target SaveFault = store_line target
-line_of file target InputFault = input_line
-line_of file target OutFault = out_line
-line_of file target ErrFault = []
+-- the line, where these files were to be loaded and this name to be saved
+abbrev pub line_of : List (List ℕ) → List ℕ → Outcome → List ℕ
+line_of files target Done = []
+line_of files target (Exited status) = exit_line status
+line_of files target (Refused line) = line.items
+line_of files target (Steps n) = steps_line n
+line_of files target (Trapped pc word) = trap_line pc word
+line_of files target (NotElf kind at) = elf_line kind at
+line_of files target NoMemory = memory_line
+line_of files target (LoadFault i) = store_line (name_at files i)
+line_of files target SaveFault = store_line target
+line_of files target InputFault = input_line
+line_of files target OutFault = out_line
+line_of files target ErrFault = []
 
 abbrev pub status_of : Outcome → ℕ
 status_of Done = 0
@@ -27,14 +27,14 @@ status_of (Steps n) = 4
 status_of (Trapped pc word) = 9
 status_of (NotElf kind at) = 8
 status_of NoMemory = 6
-status_of LoadFault = 5
+status_of (LoadFault i) = 5
 status_of SaveFault = 5
 status_of InputFault = 5
 status_of OutFault = 5
 status_of ErrFault = 5
 
 abbrev pub is_fault : Outcome → Bool
-is_fault LoadFault = true
+is_fault (LoadFault i) = true
 is_fault SaveFault = true
 is_fault InputFault = true
 is_fault OutFault = true

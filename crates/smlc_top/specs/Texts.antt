@@ -1,5 +1,5 @@
 -- The lines that the program writes on its error stream.
-use Rattle.std.specs.Prelude.{ℕ, List, [], ◌∷◌, ◌++◌, codes}
+use Rattle.std.specs.Prelude.{ℕ, ◌-◌, List, [], ◌∷◌, ◌++◌, codes, get_or}
 use Rattle.std.specs.Fmt.{decimal}
 use Rattle.std.specs.Int.{w32, w64, to_be_bytes}
 use Rattle.hex.specs.Hex.{encode_lower}
@@ -12,6 +12,10 @@ use Rattle.elf_static.specs.Kinds.{word_of as word_of_kind}
 
 abbrev pub newline : List ℕ
 newline = 10 ∷ []
+
+-- the name of this number, from 0 on
+abbrev pub name_at : List (List ℕ) → ℕ → List ℕ
+name_at names i = get_or names i []
 
 -- the plan of straight code: no closure outlives what it is for, and no value is kept in memory for want of a register
 abbrev pub plan_text : List ℕ
@@ -29,6 +33,10 @@ banned_text _ = []
 -- FILE:LINE:COL: refused NUMBER KIND, with the word behind NotInSubset
 abbrev pub refusal_line : List ℕ → Refusal → List ℕ
 refusal_line name refusal = place_text name (place_of refusal) ++ codes " refused " ++ decimal (number_of refusal) ++ codes " " ++ kind_of refusal ++ banned_text refusal ++ newline
+
+-- so for a refusal of the files of these names, whose place counts them from 1 on
+abbrev pub refused_line : List (List ℕ) → Refusal → List ℕ
+refused_line names refusal = refusal_line (name_at names ((place_of refusal).file - 1)) refusal
 
 abbrev pub usage_line : List ℕ
 usage_line = codes "usage: smlc compile|run|meter|exec|types|plan|gen|bench" ++ newline

@@ -1,68 +1,67 @@
-//! The ELF file of a file of print lines.
+//! The ELF file of a program of prints.
 
-ghost use Rattle.std.specs.Prelude.{◌≡◌};
-ghost use Rattle.smlc_top.specs.Build.{IsBuilt, IsRefusal};
+ghost use Rattle.std.specs.Prelude.{◌≡◌, ◌<◌, ◌-◌, ◌^◌, length, map};
+ghost use Rattle.smlc_top.specs.Build.{IsBuilt, IsMade, IsRefusal};
+ghost use Rattle.smlc_top.specs.Code.{IsStraight};
+ghost use Rattle.smlc_top.specs.Texts.{name_at};
 
-use crate::code::make;
-use crate::outcome::refusal_text;
-use crate::reader::{Reading, read_file};
+use crate::code::{Printed, make};
+use crate::front::tree_of;
+use crate::outcome::{name_at, refusal_text};
+use crate::plain::{Reading, read};
 use elf_static::write_elf;
-use smlc_base::{Banned, Place, Refusal};
+use smlc_base::{Banned, CompileError, Refusal};
 use std::alloc::Global;
 
-/// The most bytes of a file.
-const MOST: usize = 1_048_576;
-
-/// What became of a file.
+/// What became of files.
 #[derive(Debug, Drop)]
 pub enum Built {
     /// The bytes of an ELF file.
     Elf(Vec<u8>),
-    /// It was refused, with the line that says so.
+    /// They were refused, with the line that says so.
     Refused(Vec<u8>),
     /// Memory was wanting.
     NoMemory,
 }
 
-/// Compiles a file of print lines with this name.
-pub fn build(alloc: Global, name: &str, file: &[u8]) -> Built
-    ensures { IsBuilt name.now file.now result }
+/// Compiles the files of these names.
+pub fn build(alloc: Global, names: &[&str], files: &[Vec<u8>]) -> Built
+    requires { length files.now < 2 ^ 32 }
+    ensures { IsBuilt (map (λ name. name.now) names.now) (map (λ f. f.items) files.now) result }
 {
-    if file.len() > MOST {
-        return refuse(alloc, name, Refusal::TooLong(first_column(1)));
+    let bare = match tree_of(alloc, files) {
+        Ok(bare) => bare,
+        Err(CompileError::Refused(refusal)) => return refuse(alloc, names, refusal),
+        Err(CompileError::NoMemory) => return Built::NoMemory,
+    };
+    match read(alloc, &bare) {
+        Ok(Reading::Stops(place)) => {
+            refuse(alloc, names, Refusal::NotInSubset(place, Banned::Later))
+        }
+        Ok(Reading::Text(printed)) => elf_of(alloc, printed),
+        Err(_) => Built::NoMemory,
     }
-    match read_file(alloc, file) {
-        Ok(Reading::Stops(line)) => refuse(
-            alloc,
-            name,
-            Refusal::NotInSubset(first_column(line + 1), Banned::Later),
-        ),
-        Ok(Reading::Text(printed)) => match make(alloc, printed) {
-            Ok(image) => match write_elf(alloc, &image) {
-                Ok(bytes) => Built::Elf(bytes),
-                Err(_) => Built::NoMemory,
-            },
+}
+
+// The ELF file of straight code.
+fn elf_of(alloc: Global, printed: Printed) -> Built
+    requires { IsStraight printed.lengths.items printed.text.items }
+    ensures { IsMade printed.text.items result }
+{
+    match make(alloc, printed) {
+        Ok(image) => match write_elf(alloc, &image) {
+            Ok(bytes) => Built::Elf(bytes),
             Err(_) => Built::NoMemory,
         },
         Err(_) => Built::NoMemory,
     }
 }
 
-// The first column of a line of the user's file.
-fn first_column(line: u32) -> Place
-    ensures { result ≡ record { file = 1; line = line; col = 1 } }
+fn refuse(alloc: Global, names: &[&str], refusal: Refusal) -> Built
+    ensures { IsRefusal (map (λ name. name.now) names.now) refusal result }
 {
-    Place {
-        file: 1,
-        line,
-        col: 1,
-    }
-}
-
-fn refuse(alloc: Global, name: &str, refusal: Refusal) -> Built
-    ensures { IsRefusal name.now refusal result }
-{
-    match refusal_text(alloc, name, &refusal) {
+    let file = refusal.place().file.saturating_sub(1);
+    match refusal_text(alloc, name_at(names, file as usize), &refusal) {
         Ok(line) => Built::Refused(line),
         Err(_) => Built::NoMemory,
     }

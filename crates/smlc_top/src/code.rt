@@ -1,20 +1,25 @@
-//! The straight code of print lines: one loop of writes for each piece, and an exit.
+//! The straight code of prints: one loop of writes for each piece, and an exit.
 
 ghost use Rattle.std.specs.Prelude.{◌≡◌, ◌+◌, ◌*◌, ◌/◌, ◌%◌, ◌<◌, ◌≤◌, ◌^◌, ◌++◌, [], ◌∷◌, pos, negsuc, length, OnOk, IfOk};
 ghost use Rattle.std.specs.Int.{w32, to_le_bytes};
 ghost use Rattle.rv_isa.specs.Word.{Fits, word_of, ins as ins_op};
-ghost use Rattle.smlc_top.specs.Reader.{total};
 ghost use Rattle.elf_static.specs.Layout.{IsLaidOut, round_up};
 ghost use Rattle.elf_static.specs.Table.{no_entries};
-ghost use Rattle.smlc_top.specs.Code.{bytes_of, piece_code, pieces_code, loop_code, exit_code, low_part, image_of, IsStraight};
+ghost use Rattle.smlc_top.specs.Code.{bytes_of, piece_code, pieces_code, loop_code, exit_code, low_part, image_of, total, IsStraight};
 ghost use Rattle.smlc_top.specs.Prints.{Prints};
 ghost use Rattle.smlc_top.specs.Texts.{plan_text};
 
-use crate::reader::Printed;
 use elf_static::{Entries, Image, Segment};
 use rv_isa::{Ins, Op, encode};
 use smlc_base::{NoMemory, Row};
 use std::alloc::Global;
+
+/// The text of prints, and the lengths of its pieces that aren't empty.
+#[derive(Debug, Drop)]
+pub struct Printed {
+    pub text: Vec<u8>,
+    pub lengths: Vec<u32>,
+}
 
 /// The plan of straight code.
 const PLAN: &[u8] = b"factor 1\nspill 0\n";
@@ -101,7 +106,7 @@ fn put_exit(code: &mut Vec<u8>) -> Result<(), NoMemory>
     Ok(())
 }
 
-// The code of print lines whose text stands at an address.
+// The code of prints whose text stands at an address.
 fn code_of(alloc: Global, base: u32, lengths: &[u32]) -> Result<Vec<u8>, NoMemory>
     requires base { base < 2 ^ 31 }
     requires lined { base % 4096 ≡ 0 }
@@ -126,7 +131,7 @@ fn count(printed: &Printed) -> u32
     printed.lengths.len() as u32
 }
 
-/// The image of print lines.
+/// The image of prints.
 pub fn make(alloc: Global, printed: Printed) -> Result<Image, NoMemory>
     requires { IsStraight printed.lengths.items printed.text.items }
     ensures image { IfOk result (λ image. image ≡ image_of printed.lengths.items printed.text.items) }

@@ -15,12 +15,21 @@ const STEPS: u64 = 1_000_000_000;
 /// A job: the names of files are words of the command line.
 #[derive(Debug, Drop)]
 pub enum Job<'a> {
-    /// Compile a file and run it, for so many instructions at the most.
-    Run { file: &'a str, steps: u64 },
-    /// Compile a file, and save what was made under a name.
-    Compile { file: &'a str, target: &'a str },
+    /// Compile files and run what was made, for so many instructions at the most.
+    Run {
+        files: Vec<&'a str>,
+        steps: u64,
+    },
+    /// Compile files, and save what was made under a name.
+    Compile {
+        files: Vec<&'a str>,
+        target: &'a str,
+    },
     /// Run an ELF file, for so many instructions at the most.
-    Exec { file: &'a str, steps: u64 },
+    Exec {
+        file: &'a str,
+        steps: u64,
+    },
 }
 
 /// The job that the words ask for, if any.
@@ -45,21 +54,15 @@ fn allowed<'a>(command: Command<'a>) -> Option<Job<'a>>
             files,
             arena: None,
             steps,
-        } => match files.as_slice() {
-            [file] => Some(Job::Run {
-                file,
-                steps: steps.unwrap_or(STEPS),
-            }),
-            _ => None,
-        },
+        } => Some(Job::Run {
+            files,
+            steps: steps.unwrap_or(STEPS),
+        }),
         Command::Compile {
             files,
             out,
             arena: None,
-        } => match files.as_slice() {
-            [file] => Some(Job::Compile { file, target: out }),
-            _ => None,
-        },
+        } => Some(Job::Compile { files, target: out }),
         Command::Exec { elf, steps } => Some(Job::Exec {
             file: elf,
             steps: steps.unwrap_or(STEPS),

@@ -2,7 +2,7 @@
 
 ghost use Rattle.smlc_top.specs.Laws.{OneMeaning};
 
-/// A file has at most one text, at most one refusal, and not both.
-pub fn files_mean_one_thing()
+/// A bare tree says at most one text, stops at one place at most, and not both.
+pub fn trees_mean_one_thing()
     ensures { OneMeaning }
 {}

@@ -1,16 +1,18 @@
-//! The command line: `run` and `compile` for files of print lines, and `exec` for ELF files.
+//! The command line: `run` and `compile` for programs of prints, and `exec` for ELF files.
 //!
-//! It stands on the machine, on ELF files, on the words of the command line and on the outside. Its main contract: `smlc_main` answers
-//! each status exactly where its clause says, and what the file's lines print, and nothing else, is written on `out`.
+//! It stands on the front end, on the machine, on ELF files, on the words of the command line and on the outside. Its main contract:
+//! `smlc_main` answers each status exactly where its clause says, and what the program prints, and nothing else, is written on `out`.
 #![tactic(auto)]
 
 pub mod build;
 pub mod code;
 pub mod execute;
+pub mod front;
 pub mod job;
 pub mod laws;
+pub mod load;
 pub mod outcome;
-pub mod reader;
+pub mod plain;
 pub mod top;
 pub mod write;
 

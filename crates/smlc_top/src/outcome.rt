@@ -1,11 +1,11 @@
 //! What a job came to, and the line and the status that tell it.
 
-ghost use Rattle.std.specs.Prelude.{◌≡◌, ◌++◌, IfOk, OnOk, codes, ◌∷◌, []};
+ghost use Rattle.std.specs.Prelude.{◌≡◌, ◌++◌, IfOk, OnOk, codes, ◌∷◌, [], map};
 ghost use Rattle.std.specs.Fmt.{decimal};
 ghost use Rattle.std.specs.Int.{w32, w64, to_be_bytes};
 ghost use Rattle.hex.specs.Hex.{encode_lower};
 ghost use Rattle.elf_static.specs.Kinds.{word_of as word_of_kind};
-ghost use Rattle.smlc_top.specs.Texts.{place_text, banned_text, refusal_line, store_line, newline, elf_line, trap_line, steps_line, exit_line};
+ghost use Rattle.smlc_top.specs.Texts.{name_at, place_text, banned_text, refusal_line, store_line, newline, elf_line, trap_line, steps_line, exit_line};
 ghost use Rattle.smlc_top.specs.Write.{Whole, Said};
 ghost use Rattle.smlc_top.specs.Outcome.{line_of, status_of};
 ghost use Rattle.smlc_edge.specs.Edge.{Counts};
@@ -35,8 +35,8 @@ pub enum Outcome {
     NotElf(ElfKind, u64),
     /// Memory was wanting.
     NoMemory,
-    /// The file wasn't loaded.
-    LoadFault,
+    /// The file of this number, counted from 0, wasn't loaded.
+    LoadFault(usize),
     /// What was made wasn't saved.
     SaveFault,
     /// A read of the input failed.
@@ -53,9 +53,19 @@ pub const USAGE: &[u8] = b"usage: smlc compile|run|meter|exec|types|plan|gen|ben
 /// Tells want of memory.
 pub const MEMORY: &[u8] = b"want of memory\n";
 
-/// Writes the line of what a job came to, and answers its status, or 5 where the error stream failed. It takes no memory.
-pub fn report<E: Sink>(err: &mut E, file: &str, target: &str, outcome: &Outcome) -> u8
-    ensures said { Said (line_of file.now target.now outcome.now) (status_of outcome.now) result (E.faults err.old) (E.faults err.new) (E.taken err.old) (E.taken err.new) }
+/// The name of a number, counted from 0.
+pub fn name_at<'a>(names: &[&'a str], at: usize) -> &'a str
+    ensures { result.now ≡ name_at (map (λ name. name.now) names.now) at }
+{
+    match names.get(at) {
+        Some(name) => name,
+        None => "",
+    }
+}
+
+/// Writes the line of what a job on these files came to, and answers its status, or 5 where the error stream failed. It takes no memory.
+pub fn report<E: Sink>(err: &mut E, files: &[&str], target: &str, outcome: &Outcome) -> u8
+    ensures said { Said (line_of (map (λ file. file.now) files.now) target.now outcome.now) (status_of outcome.now) result (E.faults err.old) (E.faults err.new) (E.taken err.old) (E.taken err.new) }
     ensures surely { E.sure err.old → result ≡ status_of outcome.now }
 {
     match outcome {
@@ -66,7 +76,9 @@ pub fn report<E: Sink>(err: &mut E, file: &str, target: &str, outcome: &Outcome)
         Outcome::Trapped { pc, word } => say_trap(err, *pc, *word),
         Outcome::NotElf(kind, at) => say_not_elf(err, *kind, *at),
         Outcome::NoMemory => say(err, MEMORY, 6),
-        Outcome::LoadFault => say_line(err, b"fault store ", file.as_bytes(), 5),
+        Outcome::LoadFault(at) => {
+            say_line(err, b"fault store ", name_at(files, *at).as_bytes(), 5)
+        }
         Outcome::SaveFault => say_line(err, b"fault store ", target.as_bytes(), 5),
         Outcome::InputFault => say(err, b"fault input\n", 5),
         Outcome::OutFault => say(err, b"fault out\n", 5),

@@ -5,9 +5,9 @@ use smlc_edge::{Failed, MemSink, MemSource, MemStore, QuietSink, QuietSource, Si
 use std::alloc::Global;
 use std::test::Fail;
 
-/// A file, the numbers of the calls of `store` and `out` that are to fail, and what comes of it.
+/// Files, the numbers of the calls of `store` and `out` that are to fail, and what comes of it.
 struct Case {
-    file: &'static str,
+    files: &'static [&'static str],
     store: &'static [u64],
     out: &'static [u64],
     written: &'static str,
@@ -15,9 +15,70 @@ struct Case {
     status: u8,
 }
 
-const CASES: &[Case] = &[
+/// What comes before there is a bare tree.
+const EARLY: &[Case] = &[
     Case {
-        file: "val _ = print \"hello\\n\"\n",
+        files: &["val _ = print (1"],
+        store: &[],
+        out: &[],
+        written: "",
+        error: "f.sml:1:17: refused 4 Syntax\n",
+        status: 2,
+    },
+    Case {
+        files: &["val _ = print \"a\"\n", "val _ = ("],
+        store: &[],
+        out: &[],
+        written: "",
+        error: "g.sml:1:10: refused 4 Syntax\n",
+        status: 2,
+    },
+    Case {
+        files: &["infix 5 ++ val _ = 1 :: 2 ++ 3"],
+        store: &[],
+        out: &[],
+        written: "",
+        error: "f.sml:1:27: refused 5 MixedFixity\n",
+        status: 2,
+    },
+    Case {
+        files: &["val _ = 1.5"],
+        store: &[],
+        out: &[],
+        written: "",
+        error: "f.sml:1:9: refused 6 NotInSubset real\n",
+        status: 2,
+    },
+    Case {
+        files: &["", "val _ = \"a"],
+        store: &[],
+        out: &[],
+        written: "",
+        error: "g.sml:1:9: refused 2 Unclosed\n",
+        status: 2,
+    },
+    Case {
+        files: &["val _ = print \"ab\"\n"],
+        store: &[1],
+        out: &[],
+        written: "",
+        error: "fault store f.sml\n",
+        status: 5,
+    },
+    Case {
+        files: &["val _ = print \"ab\"\n", "val _ = ("],
+        store: &[2],
+        out: &[],
+        written: "",
+        error: "fault store g.sml\n",
+        status: 5,
+    },
+];
+
+/// What comes of bare trees.
+const PROGRAMS: &[Case] = &[
+    Case {
+        files: &["val _ = print \"hello\\n\"\n"],
         store: &[],
         out: &[],
         written: "hello\n",
@@ -25,7 +86,7 @@ const CASES: &[Case] = &[
         status: 0,
     },
     Case {
-        file: "",
+        files: &[""],
         store: &[],
         out: &[],
         written: "",
@@ -33,15 +94,41 @@ const CASES: &[Case] = &[
         status: 0,
     },
     Case {
-        file: "\nval _ = print \"a\\\"\\\\\"\n\nval _ = print \"b\"",
+        files: &["val _ = print \"ab\"\n", "val _ = print \"cd\"\n"],
         store: &[],
         out: &[],
-        written: "a\"\\b",
+        written: "abcd",
         error: "",
         status: 0,
     },
     Case {
-        file: "val x = 1\n",
+        files: &[
+            "(* (* *) *) val _ = print \"a\"; local val _ = print \"b\" in val _ = (print \"c\") end",
+        ],
+        store: &[],
+        out: &[],
+        written: "abc",
+        error: "",
+        status: 0,
+    },
+    Case {
+        files: &["val _ = print \"\"\nval _ = print \"\\097\\u0062\\\"\\\\\\   \\c\""],
+        store: &[],
+        out: &[],
+        written: "ab\"\\c",
+        error: "",
+        status: 0,
+    },
+    Case {
+        files: &["infix 4 ++ val _ = print \"a\""],
+        store: &[],
+        out: &[],
+        written: "a",
+        error: "",
+        status: 0,
+    },
+    Case {
+        files: &["val _ = fn x => x"],
         store: &[],
         out: &[],
         written: "",
@@ -49,27 +136,51 @@ const CASES: &[Case] = &[
         status: 2,
     },
     Case {
-        file: "val _ = print \"a\"\nval _ = print \"b\" \n",
+        files: &["val _ = (1 :: 2 @ 3)"],
         store: &[],
         out: &[],
         written: "",
-        error: "f.sml:2:1: refused 6 NotInSubset later\n",
+        error: "f.sml:1:1: refused 6 NotInSubset later\n",
         status: 2,
     },
     Case {
-        file: "val _ = print \"ab\"\nval _ = print \"cd\"\n",
+        files: &["val _ = print \"a\"\n", "\n  val x = print \"b\""],
+        store: &[],
+        out: &[],
+        written: "",
+        error: "g.sml:2:3: refused 6 NotInSubset later\n",
+        status: 2,
+    },
+    Case {
+        files: &["val _ = print \"a\" and _ = print \"b\""],
+        store: &[],
+        out: &[],
+        written: "",
+        error: "f.sml:1:1: refused 6 NotInSubset later\n",
+        status: 2,
+    },
+    Case {
+        files: &["val _ = print x"],
+        store: &[],
+        out: &[],
+        written: "",
+        error: "f.sml:1:15: refused 10 Unbound\n",
+        status: 2,
+    },
+    Case {
+        files: &["val x = 1", "val (x, x) = (1, 2)"],
+        store: &[],
+        out: &[],
+        written: "",
+        error: "g.sml:1:9: refused 11 BadBinding\n",
+        status: 2,
+    },
+    Case {
+        files: &["val _ = print \"ab\"\nval _ = print \"cd\"\n"],
         store: &[],
         out: &[2],
         written: "ab",
         error: "fault out\n",
-        status: 5,
-    },
-    Case {
-        file: "val _ = print \"ab\"\nval _ = print \"cd\"\n",
-        store: &[1],
-        out: &[],
-        written: "",
-        error: "fault store f.sml\n",
         status: 5,
     },
 ];
@@ -82,22 +193,46 @@ fn words(alloc: Global, names: &[&str]) -> Result<Vec<String>, Fail> {
     Ok(words)
 }
 
+// What `run` of a case's files answers; `out` and `err` get what it writes.
+fn ran(alloc: Global, case: &Case, out: &mut MemSink, err: &mut MemSink) -> Result<u8, Fail> {
+    let mut store = MemStore::new(alloc, case.store.to_vec(alloc)?);
+    let mut words = words(alloc, &["smlc", "run"])?;
+    for (name, file) in ["f.sml", "g.sml"].iter().zip(case.files) {
+        store.add(name, file.as_bytes())?;
+        words.push(name.to_string(alloc)?)?;
+    }
+    let mut input = QuietSource::new(Vec::new(alloc));
+    Ok(smlc_main(alloc, &words, &mut store, &mut input, out, err))
+}
+
+fn sink(alloc: Global, failing: &[u64]) -> Result<MemSink, Fail> {
+    let mut sink = MemSink::new(alloc, failing.to_vec(alloc)?);
+    sink.reserve(100)?;
+    Ok(sink)
+}
+
 #[test]
-fn files_and_faults(rt: HostRuntime) -> Result<(), Fail> {
+fn what_comes_before_the_bare_tree(rt: HostRuntime) -> Result<(), Fail> {
     let alloc = rt.alloc();
-    for case in CASES {
-        let mut store = MemStore::new(alloc, case.store.to_vec(alloc)?);
-        store.add("f.sml", case.file.as_bytes())?;
-        let mut input = MemSource::new(Vec::new(alloc), Vec::new(alloc));
-        let mut out = MemSink::new(alloc, case.out.to_vec(alloc)?);
-        out.reserve(100)?;
-        let mut err = MemSink::new(alloc, Vec::new(alloc));
-        err.reserve(100)?;
-        let words = words(alloc, &["smlc", "run", "f.sml"])?;
-        let status = smlc_main(alloc, &words, &mut store, &mut input, &mut out, &mut err);
-        assert_eq!(rt; status, case.status, "of {}", case.file);
-        assert_eq!(rt; out.bytes(), case.written.as_bytes(), "by {}", case.file);
-        assert_eq!(rt; err.bytes(), case.error.as_bytes(), "of {}", case.file);
+    for case in EARLY {
+        let mut out = sink(alloc, case.out)?;
+        let mut err = sink(alloc, &[])?;
+        assert_eq!(rt; ran(alloc, case, &mut out, &mut err)?, case.status);
+        assert_eq!(rt; out.bytes(), case.written.as_bytes());
+        assert_eq!(rt; err.bytes(), case.error.as_bytes());
+    }
+    Ok(())
+}
+
+#[test]
+fn programs_and_faults(rt: HostRuntime) -> Result<(), Fail> {
+    let alloc = rt.alloc();
+    for case in PROGRAMS {
+        let mut out = sink(alloc, case.out)?;
+        let mut err = sink(alloc, &[])?;
+        assert_eq!(rt; ran(alloc, case, &mut out, &mut err)?, case.status);
+        assert_eq!(rt; out.bytes(), case.written.as_bytes());
+        assert_eq!(rt; err.bytes(), case.error.as_bytes());
     }
     Ok(())
 }
@@ -152,27 +287,33 @@ fn a_sink_of_one_byte(rt: HostRuntime) -> Result<(), Fail> {
     Ok(())
 }
 
-#[test]
-fn a_file_of_the_greatest_length(rt: HostRuntime) -> Result<(), Fail> {
-    let alloc = rt.alloc();
-    let words = words(alloc, &["smlc", "run", "f.sml"])?;
-    for (size, want) in [(1_048_576, 0), (1_048_577, 2)] {
-        let file = vec![in alloc; 10u8; size]?;
-        let mut store = MemStore::new(alloc, Vec::new(alloc));
-        store.add("f.sml", &file)?;
-        let mut input = QuietSource::new(Vec::new(alloc));
-        let mut out = QuietSink::new();
-        let mut err = MemSink::new(alloc, Vec::new(alloc));
-        err.reserve(100)?;
-        let status = smlc_main(alloc, &words, &mut store, &mut input, &mut out, &mut err);
-        assert_eq!(rt; status, want);
-        let line = if want == 0 {
-            ""
-        } else {
-            "f.sml:1:1: refused 7 TooLong\n"
-        };
-        assert_eq!(rt; err.bytes(), line.as_bytes());
+// What `run` of two files of so many newlines answers.
+fn sized(alloc: Global, sizes: [usize; 2], err: &mut MemSink) -> Result<u8, Fail> {
+    let mut store = MemStore::new(alloc, Vec::new(alloc));
+    for (name, size) in ["f.sml", "g.sml"].iter().zip(sizes) {
+        store.add(name, &vec![in alloc; 10u8; size]?)?;
     }
+    let mut input = QuietSource::new(Vec::new(alloc));
+    let mut out = QuietSink::new();
+    let words = words(alloc, &["smlc", "run", "f.sml", "g.sml"])?;
+    Ok(smlc_main(alloc, &words, &mut store, &mut input, &mut out, err))
+}
+
+#[test]
+fn files_that_are_too_long(rt: HostRuntime) -> Result<(), Fail> {
+    let alloc = rt.alloc();
+    let mut err = sink(alloc, &[])?;
+    assert_eq!(rt; sized(alloc, [1_000_000, 48_577], &mut err)?, 2);
+    assert_eq!(rt; err.bytes(), b"g.sml:1:1: refused 7 TooLong\n".as_slice());
+    Ok(())
+}
+
+#[test]
+fn files_of_the_greatest_length(rt: HostRuntime) -> Result<(), Fail> {
+    let alloc = rt.alloc();
+    let mut err = sink(alloc, &[])?;
+    assert_eq!(rt; sized(alloc, [1_000_000, 48_576], &mut err)?, 0);
+    assert_eq!(rt; err.bytes(), b"".as_slice());
     Ok(())
 }
 
@@ -184,7 +325,7 @@ fn words_that_are_no_command(rt: HostRuntime) -> Result<(), Fail> {
         &["smlc", "run"],
         &["smlc", "run", "f.sml", "--arena=2048"],
         &["smlc", "compile", "f.sml"],
-        &["smlc", "run", "f.sml", "g.sml"],
+        &["smlc", "run", "f.sml", "-o", "a"],
         &["smlc", "types", "f.sml"],
     ];
     for case in cases {

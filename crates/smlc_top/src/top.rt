@@ -1,7 +1,7 @@
 //! The top call.
 
-ghost use Rattle.std.specs.Prelude.{◌≡◌, ◌≢◌, List, [], ℕ, Option, map, string_bytes, false};
-ghost use Rattle.smlc_top.specs.Job.{RunFile, CompileFile, ExecFile, IsAsked, Serves, job_of};
+ghost use Rattle.std.specs.Prelude.{◌≡◌, ◌≢◌, ◌≤◌, List, [], ℕ, Option, All, length, map, string_bytes, false};
+ghost use Rattle.smlc_top.specs.Job.{RunFiles, CompileFiles, ExecFile, IsAsked, Serves, files_of, job_of};
 ghost use Rattle.smlc_top.specs.Job.{Job as Wanted};
 ghost use Rattle.smlc_top.specs.Outcome.{is_fault, ended_outcome};
 ghost use Rattle.smlc_top.specs.Clause.{tally, Came, Answers, Performed};
@@ -9,6 +9,7 @@ ghost use Rattle.smlc_top.specs.Clause.{tally, Came, Answers, Performed};
 use crate::build::{Built, build};
 use crate::execute::execute;
 use crate::job::{Job, find_job};
+use crate::load::{Loaded, load_all};
 use crate::outcome::{MEMORY, Outcome, USAGE, report};
 use crate::write::say;
 use smlc_edge::{Sink, Source, Store, StoreError};
@@ -16,9 +17,9 @@ use std::alloc::Global;
 
 /// Does what the words say, and answers the status.
 ///
-/// `run FILE [--steps N]` compiles a file of print lines and runs it, `compile FILE -o OUT` saves what was made as an ELF file, and
+/// `run FILE.. [--steps N]` compiles a program of prints and runs it, `compile FILE.. -o OUT` saves what was made as an ELF file, and
 /// `exec ELF [--steps N]` runs any ELF file that keeps to the system calls of the machine.
-/// What the program prints goes to `out`, and the line of the status to `err`. The status is 0 where all was done, 2 where the file was refused,
+/// What the program prints goes to `out`, and the line of the status to `err`. The status is 0 where all was done, 2 where the files were refused,
 /// 4 where so many instructions were done and the program goes on, 5 where the outside failed, 6 for want of memory, 7 where the words are no command,
 /// 8 where the file is no ELF file that can be run, and 9 where the machine has no step.
 pub fn smlc_main<F: Store, I: Source, O: Sink, E: Sink>(
@@ -54,6 +55,7 @@ fn do_job<F: Store, I: Source, O: Sink, E: Sink>(
     out: &mut O,
     err: &mut E,
 ) -> u8
+    requires { length (files_of (job_of job)) ≤ 256 }
     ensures answer { (words : List (List ℕ)) → IsAsked words (job_of job.entry) → Came (O.taken out.old) (O.taken out.new) (E.taken err.old) (E.taken err.new) (λ wrote wrote_err.
         Answers words (F.files store.old) (F.files store.new)
         (tally (F.faults store.old) (I.faults input.old) (O.faults out.old) (E.faults err.old))
@@ -62,45 +64,48 @@ fn do_job<F: Store, I: Source, O: Sink, E: Sink>(
         I.sure input.old → O.sure out.old → E.sure err.old → result ≢ 5 }
 {
     match job {
-        Job::Run { file, steps } => {
-            let outcome = run(alloc, file, steps, store, input, out, err);
-            report(err, file, "", &outcome)
+        Job::Run { files, steps } => {
+            let names = files.as_slice();
+            let outcome = run(alloc, names, steps, store, input, out, err);
+            report(err, names, "", &outcome)
         }
-        Job::Compile { file, target } => {
-            let outcome = compile(alloc, file, target, store);
-            report(err, file, target, &outcome)
+        Job::Compile { files, target } => {
+            let names = files.as_slice();
+            let outcome = compile(alloc, names, target, store);
+            report(err, names, target, &outcome)
         }
         Job::Exec { file, steps } => {
             let outcome = exec(alloc, file, steps, store, input, out, err);
-            report(err, file, "", &outcome)
+            report(err, &[file], "", &outcome)
         }
     }
 }
 
-// Compiles a file and runs it.
+// Compiles files and runs what was made.
 fn run<F: Store, I: Source, O: Sink, E: Sink>(
     alloc: Global,
-    name: &str,
+    names: &[&str],
     steps: u64,
     store: &mut F,
     input: &mut I,
     out: &mut O,
     err: &mut E,
 ) -> Outcome
+    requires { length names.now ≤ 256 }
     ensures performed { Came (O.taken out.old) (O.taken out.new) (E.taken err.old) (E.taken err.new) (λ wrote wrote_err.
-        Performed (RunFile name.now steps) (F.files store.old) (F.files store.new)
+        Performed (RunFiles (map (λ name. name.now) names.now) steps) (F.files store.old) (F.files store.new)
         (tally (F.faults store.old) (I.faults input.old) (O.faults out.old) (E.faults err.old))
         (tally (F.faults store.new) (I.faults input.new) (O.faults out.new) (E.faults err.new)) (I.left input.old) wrote wrote_err result) }
-    ensures sure { F.surely_loads store.old name.now → I.sure input.old → O.sure out.old → E.sure err.old → (is_fault result ≡ false) × E.sure err.new }
+    ensures sure { All (F.surely_loads store.old) (map (λ name. name.now) names.now) → I.sure input.old → O.sure out.old → E.sure err.old → (is_fault result ≡ false) × E.sure err.new }
 {
-    match store.load(alloc, name) {
-        Ok(file) => match build(alloc, name, &file) {
+    match load_all(alloc, names, store) {
+        Loaded::Files(files) => match build(alloc, names, &files) {
             Built::Elf(bytes) => ended(execute(alloc, &bytes, steps, input, out, err)),
             Built::Refused(line) => Outcome::Refused(line),
             Built::NoMemory => Outcome::NoMemory,
         },
-        Err(StoreError::NoMemory) => Outcome::NoMemory,
-        Err(StoreError::Failed) => Outcome::LoadFault,
+        Loaded::Failed(at) => Outcome::LoadFault(at),
+        Loaded::NoMemory => Outcome::NoMemory,
     }
 }
 
@@ -114,14 +119,15 @@ fn ended(outcome: Outcome) -> Outcome
     }
 }
 
-// Compiles a file and saves what was made.
-fn compile<F: Store>(alloc: Global, name: &str, target: &str, store: &mut F) -> Outcome
-    ensures performed { (i o e : ℕ) (input : Option (List ℕ)) → Performed (CompileFile name.now target.now) (F.files store.old) (F.files store.new)
+// Compiles files and saves what was made.
+fn compile<F: Store>(alloc: Global, names: &[&str], target: &str, store: &mut F) -> Outcome
+    requires { length names.now ≤ 256 }
+    ensures performed { (i o e : ℕ) (input : Option (List ℕ)) → Performed (CompileFiles (map (λ name. name.now) names.now) target.now) (F.files store.old) (F.files store.new)
         (tally (F.faults store.old) i o e) (tally (F.faults store.new) i o e) input [] [] result }
-    ensures sure { F.surely_loads store.old name.now → F.surely_saves store.old target.now 8589934592 → is_fault result ≡ false }
+    ensures sure { All (F.surely_loads store.old) (map (λ name. name.now) names.now) → F.surely_saves store.old target.now 8589934592 → is_fault result ≡ false }
 {
-    match store.load(alloc, name) {
-        Ok(file) => match build(alloc, name, &file) {
+    match load_all(alloc, names, store) {
+        Loaded::Files(files) => match build(alloc, names, &files) {
             Built::Elf(bytes) => match store.save(target, &bytes) {
                 Ok(()) => Outcome::Done,
                 Err(_) => Outcome::SaveFault,
@@ -129,8 +135,8 @@ fn compile<F: Store>(alloc: Global, name: &str, target: &str, store: &mut F) -> 
             Built::Refused(line) => Outcome::Refused(line),
             Built::NoMemory => Outcome::NoMemory,
         },
-        Err(StoreError::NoMemory) => Outcome::NoMemory,
-        Err(StoreError::Failed) => Outcome::LoadFault,
+        Loaded::Failed(at) => Outcome::LoadFault(at),
+        Loaded::NoMemory => Outcome::NoMemory,
     }
 }
 
@@ -153,6 +159,6 @@ fn exec<F: Store, I: Source, O: Sink, E: Sink>(
     match store.load(alloc, name) {
         Ok(file) => execute(alloc, &file, steps, input, out, err),
         Err(StoreError::NoMemory) => Outcome::NoMemory,
-        Err(StoreError::Failed) => Outcome::LoadFault,
+        Err(StoreError::Failed) => Outcome::LoadFault(0),
     }
 }

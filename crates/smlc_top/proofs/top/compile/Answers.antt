@@ -1,38 +1,49 @@
-use Rattle.std.proofs.Common.{ℕ, refl, ◌∙◌, subst}
+use Rattle.std.proofs.Common.{ℕ, length, arith, ap, refl, ◌∙◌, subst}
+use Rattle.std.specs.Prelude.{map}
+use Rattle.std.proofs.lemmas.List.{length-map}
 use Rattle.smlc_edge.specs.Edge.{Fails}
 use Rattle.smlc_top.specs.declared.outcome.Outcome.TheVariants as outcome
 use Rattle.smlc_top.specs.Clause.{compiled, fine, want, load_failed, save_failed}
 use Rattle.smlc_top.proofs.Jobs.{compile_said, has_saved, changes_only}
 use Rattle.smlc_top.proofs.top.compile.Goals as goal
 
-pub returns-in-Ok-save-clause-performed : goal.returns-in-Ok-save-clause-performed
-returns-in-Ok-save-clause-performed g c = λ i o e input.
-    let b = c.in-Elf.ensures in
-    let means = rw c.deref.ensures.value at b.1 in
-    fine outcome.Done (compiled c.args.name.now c.args.target.now c.in-Ok.file.items b.0 c.in-Elf.bytes.items b.2.image (λ files t. c.in-Ok.ensures.told files t) means b.2.compiles b.2.read
-    (has_saved (g.F.Store.files c.args.store.now) (g.F.Store.files c.load.new.self) (g.F.Store.files c.save.new.self) c.args.target.now c.in-Elf.bytes.items tt (λ files t. c.in-Ok.ensures.kept files t) (λ files t. rw c.deref-in-Elf.ensures.value at (c.in-Ok-save.ensures.told files t))) refl refl)
-    (record { store = c.in-Ok-save.ensures.cause ∙ c.in-Ok.ensures.cause; input = refl; out = refl; err = refl })
+pub build-requires : goal.build-requires
+build-requires g c =
+    let l = c.in-Files.ensures.loaded in
+    omega (arith, l.1, length-map c.args.names.now (λ x. x.now), ap length c.deref.ensures.value)
+
+pub returns-in-Ok-clause-performed : goal.returns-in-Ok-clause-performed
+returns-in-Ok-clause-performed g c = λ i o e input.
+    let l = c.in-Files.ensures.loaded in
+    let b = rw c.deref.ensures.value at c.in-Elf.ensures in
+    fine outcome.Done (compiled (map (λ x. x.now) c.args.names.now) (map (λ x. x.items) c.in-Files.files.items) c.args.target.now b.0 c.in-Elf.bytes.items b.2.image (λ files t. l.0 files t) b.1 b.2.compiles b.2.read
+    (has_saved (g.F.Store.files c.args.store.now) (g.F.Store.files c.load_all.new.store) (g.F.Store.files c.save.new.self) c.args.target.now c.in-Elf.bytes.items tt (λ files t. l.2 files t) (λ files t. rw c.deref-in-Elf.ensures.value at (c.in-Ok.ensures.told files t))) refl refl)
+    (record { store = c.in-Ok.ensures.cause ∙ l.3; input = refl; out = refl; err = refl })
 
 pub returns-in-Elf-clause-performed : goal.returns-in-Elf-clause-performed
 returns-in-Elf-clause-performed g c = λ i o e input.
-    let f : Fails (g.F.Store.faults c.args.store.now) (g.F.Store.faults c.save.new.self) = subst (λ (n : ℕ). Fails n (g.F.Store.faults c.save.new.self)) c.in-Ok.ensures.cause c.in-Err.ensures.cause in
-    save_failed c.args.name.now c.args.target.now refl f refl refl
-    (changes_only (g.F.Store.files c.args.store.now) (g.F.Store.files c.load.new.self) (g.F.Store.files c.save.new.self) c.args.target.now _ c.in-Err.field-0 (λ files t. c.in-Ok.ensures.kept files t) (λ files t. c.in-Err.ensures.told files t))
+    let l = c.in-Files.ensures.loaded in
+    let f : Fails (g.F.Store.faults c.args.store.now) (g.F.Store.faults c.save.new.self) = subst (λ (n : ℕ). Fails n (g.F.Store.faults c.save.new.self)) l.3 c.in-Err.ensures.cause in
+    save_failed (map (λ x. x.now) c.args.names.now) c.args.target.now refl f refl refl
+    (changes_only (g.F.Store.files c.args.store.now) (g.F.Store.files c.load_all.new.store) (g.F.Store.files c.save.new.self) c.args.target.now _ c.in-Err.field-0 (λ files t. l.2 files t) (λ files t. c.in-Err.ensures.told files t))
 
 pub returns-in-Refused-clause-performed : goal.returns-in-Refused-clause-performed
 returns-in-Refused-clause-performed g c = λ i o e input.
-    compile_said c.args.name.now c.args.target.now (g.F.Store.files c.args.store.now) (g.F.Store.files c.load.new.self) c.in-Ok.file.items c.in-Refused.line _ _ input
-    (λ files t. c.in-Ok.ensures.told files t) (λ files t. c.in-Ok.ensures.kept files t) (rw c.deref.ensures.value at c.in-Refused.ensures) (record { store = c.in-Ok.ensures.cause; input = refl; out = refl; err = refl })
+    let l = c.in-Files.ensures.loaded in
+    compile_said (map (λ x. x.now) c.args.names.now) c.args.target.now (g.F.Store.files c.args.store.now) (g.F.Store.files c.load_all.new.store) (map (λ x. x.items) c.in-Files.files.items) c.in-Refused.line _ _ input
+    (λ files t. l.0 files t) (λ files t. l.2 files t) (rw c.deref.ensures.value at c.in-Refused.ensures) (record { store = l.3; input = refl; out = refl; err = refl })
 
-pub returns-in-Ok-clause-performed : goal.returns-in-Ok-clause-performed
-returns-in-Ok-clause-performed g c = λ i o e input. want refl refl (λ files t. c.in-Ok.ensures.kept files t) (record { store = c.in-Ok.ensures.cause; input = refl; out = refl; err = refl })
+pub returns-in-Files-clause-performed : goal.returns-in-Files-clause-performed
+returns-in-Files-clause-performed g c = λ i o e input.
+    let l = c.in-Files.ensures.loaded in
+    want refl refl (λ files t. l.2 files t) (record { store = l.3; input = refl; out = refl; err = refl })
 
-pub returns-in-Err-NoMemory-clause-performed : goal.returns-in-Err-NoMemory-clause-performed
-returns-in-Err-NoMemory-clause-performed g c = λ i o e input.
-    let k = rw c.in-Err-NoMemory.field-0-is at c.in-Err-NoMemory.ensures.cause in
-    want refl refl (λ files t. c.in-Err-NoMemory.ensures.kept files t) (record { store = k; input = refl; out = refl; err = refl })
+pub returns-in-Failed-clause-performed : goal.returns-in-Failed-clause-performed
+returns-in-Failed-clause-performed g c = λ i o e input.
+    let l = c.in-Failed.ensures.loaded in
+    load_failed c.in-Failed.at l.0 l.2 refl refl (λ files t. l.1 files t)
 
 pub returns-clause-performed : goal.returns-clause-performed
 returns-clause-performed g c = λ i o e input.
-    let k = rw c.in-Err-Failed.field-0-is at c.in-Err-Failed.ensures.cause in
-    load_failed k refl refl (λ files t. c.in-Err-Failed.ensures.kept files t)
+    let l = c.in-NoMemory.ensures.loaded in
+    want refl refl (λ files t. l.0 files t) (record { store = l.1; input = refl; out = refl; err = refl })

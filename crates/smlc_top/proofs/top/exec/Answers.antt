@@ -2,6 +2,7 @@ use Rattle.std.proofs.Common.{ℕ, refl, sym, subst}
 use Rattle.smlc_top.specs.Job.{ExecFile}
 use Rattle.smlc_top.specs.Clause.{tally, Performed, want, load_failed}
 use Rattle.smlc_top.proofs.Faults.{came_none, came_so}
+use Rattle.smlc_top.proofs.Held.{first_fails}
 use Rattle.smlc_top.proofs.Jobs.{exec_executed}
 use Rattle.smlc_top.proofs.top.exec.Goals as goal
 
@@ -21,4 +22,4 @@ returns-in-Err-NoMemory-clause-performed g c =
 pub returns-in-Err-Failed-clause-performed : goal.returns-in-Err-Failed-clause-performed
 returns-in-Err-Failed-clause-performed g c =
     let k = rw c.in-Err-Failed.field-0-is at c.in-Err-Failed.ensures.cause in
-    came_none (g.O.Sink.taken c.args.out.now) (g.E.Sink.taken c.args.err.now) _ (load_failed k refl refl (λ files t. c.in-Err-Failed.ensures.kept files t))
+    came_none (g.O.Sink.taken c.args.out.now) (g.E.Sink.taken c.args.err.now) _ (load_failed 0 (first_fails (g.F.Store.files c.args.store.now) c.args.name.now) k refl refl (λ files t. c.in-Err-Failed.ensures.kept files t))

@@ -1,34 +1,46 @@
-use Rattle.std.proofs.Common.{ℕ, refl, sym, subst}
-use Rattle.smlc_top.specs.Job.{RunFile}
+use Rattle.std.proofs.Common.{ℕ, length, arith, ap, refl, sym, subst}
+use Rattle.std.specs.Prelude.{map}
+use Rattle.std.proofs.lemmas.List.{length-map}
+use Rattle.smlc_top.specs.Job.{RunFiles}
 use Rattle.smlc_top.specs.Outcome.{ended_outcome}
 use Rattle.smlc_top.specs.Clause.{tally, Performed, want, load_failed}
 use Rattle.smlc_top.proofs.Faults.{came_none, came_so}
 use Rattle.smlc_top.proofs.Jobs.{run_executed, run_said}
 use Rattle.smlc_top.proofs.top.run.Goals as goal
 
+pub build-requires : goal.build-requires
+build-requires g c =
+    let l = c.in-Files.ensures.loaded in
+    omega (arith, l.1, length-map c.args.names.now (λ x. x.now), ap length c.deref.ensures.value)
+
 pub returns-in-Elf-clause-performed : goal.returns-in-Elf-clause-performed
 returns-in-Elf-clause-performed g c =
-    let b = c.in-Elf.ensures in
+    let l = c.in-Files.ensures.loaded in
+    let b = rw c.deref.ensures.value at c.in-Elf.ensures in
+    let names = map (λ x. x.now) c.args.names.now in
     rw c.ended.ensures (came_so (g.O.Sink.taken c.args.out.now) (g.O.Sink.taken c.execute.new.out) (g.E.Sink.taken c.args.err.now) (g.E.Sink.taken c.execute.new.err) _ _
-    (λ w e h. subst (λ (n : ℕ). Performed (RunFile c.args.name.now c.args.steps) (g.F.Store.files c.args.store.now) (g.F.Store.files c.load.new.self) (tally (g.F.Store.faults c.args.store.now) (g.I.Source.faults c.args.input.now) (g.O.Sink.faults c.args.out.now) (g.E.Sink.faults c.args.err.now)) (tally n (g.I.Source.faults c.execute.new.input) (g.O.Sink.faults c.execute.new.out) (g.E.Sink.faults c.execute.new.err)) (g.I.Source.left c.args.input.now) w e (ended_outcome c.execute.result)) (sym c.in-Ok.ensures.cause)
-    (run_executed c.args.name.now (g.F.Store.files c.args.store.now) (g.F.Store.files c.load.new.self) c.args.steps c.in-Ok.file.items b.0 c.in-Elf.bytes.items (tally (g.F.Store.faults c.args.store.now) (g.I.Source.faults c.args.input.now) (g.O.Sink.faults c.args.out.now) (g.E.Sink.faults c.args.err.now)) (tally (g.F.Store.faults c.args.store.now) (g.I.Source.faults c.execute.new.input) (g.O.Sink.faults c.execute.new.out) (g.E.Sink.faults c.execute.new.err)) (g.I.Source.left c.args.input.now) w e c.execute.result
-    (λ files t. c.in-Ok.ensures.told files t) (λ files t. c.in-Ok.ensures.kept files t) (rw c.deref.ensures.value at b.1) b.2 (rw c.deref-in-Elf.ensures.value at h)))
+    (λ w e h. subst (λ (n : ℕ). Performed (RunFiles names c.args.steps) (g.F.Store.files c.args.store.now) (g.F.Store.files c.load_all.new.store) (tally (g.F.Store.faults c.args.store.now) (g.I.Source.faults c.args.input.now) (g.O.Sink.faults c.args.out.now) (g.E.Sink.faults c.args.err.now)) (tally n (g.I.Source.faults c.execute.new.input) (g.O.Sink.faults c.execute.new.out) (g.E.Sink.faults c.execute.new.err)) (g.I.Source.left c.args.input.now) w e (ended_outcome c.execute.result)) (sym l.3)
+    (run_executed names (g.F.Store.files c.args.store.now) (g.F.Store.files c.load_all.new.store) c.args.steps (map (λ x. x.items) c.in-Files.files.items) b.0 c.in-Elf.bytes.items (tally (g.F.Store.faults c.args.store.now) (g.I.Source.faults c.args.input.now) (g.O.Sink.faults c.args.out.now) (g.E.Sink.faults c.args.err.now)) (tally (g.F.Store.faults c.args.store.now) (g.I.Source.faults c.execute.new.input) (g.O.Sink.faults c.execute.new.out) (g.E.Sink.faults c.execute.new.err)) (g.I.Source.left c.args.input.now) w e c.execute.result
+    (λ files t. l.0 files t) (λ files t. l.2 files t) b.1 b.2 (rw c.deref-in-Elf.ensures.value at h)))
     (c.execute.ensures.executed (g.F.Store.faults c.args.store.now)))
 
 pub returns-in-Refused-clause-performed : goal.returns-in-Refused-clause-performed
 returns-in-Refused-clause-performed g c =
-    came_none (g.O.Sink.taken c.args.out.now) (g.E.Sink.taken c.args.err.now) _ (run_said c.args.name.now (g.F.Store.files c.args.store.now) (g.F.Store.files c.load.new.self) c.args.steps c.in-Ok.file.items c.in-Refused.line _ _ (g.I.Source.left c.args.input.now)
-    (λ files t. c.in-Ok.ensures.told files t) (λ files t. c.in-Ok.ensures.kept files t) (rw c.deref.ensures.value at c.in-Refused.ensures) (record { store = c.in-Ok.ensures.cause; input = refl; out = refl; err = refl }))
+    let l = c.in-Files.ensures.loaded in
+    came_none (g.O.Sink.taken c.args.out.now) (g.E.Sink.taken c.args.err.now) _ (run_said (map (λ x. x.now) c.args.names.now) (g.F.Store.files c.args.store.now) (g.F.Store.files c.load_all.new.store) c.args.steps (map (λ x. x.items) c.in-Files.files.items) c.in-Refused.line _ _ (g.I.Source.left c.args.input.now)
+    (λ files t. l.0 files t) (λ files t. l.2 files t) (rw c.deref.ensures.value at c.in-Refused.ensures) (record { store = l.3; input = refl; out = refl; err = refl }))
 
-pub returns-in-Ok-clause-performed : goal.returns-in-Ok-clause-performed
-returns-in-Ok-clause-performed g c = came_none (g.O.Sink.taken c.args.out.now) (g.E.Sink.taken c.args.err.now) _ (want refl refl (λ files t. c.in-Ok.ensures.kept files t) (record { store = c.in-Ok.ensures.cause; input = refl; out = refl; err = refl }))
+pub returns-in-Files-clause-performed : goal.returns-in-Files-clause-performed
+returns-in-Files-clause-performed g c =
+    let l = c.in-Files.ensures.loaded in
+    came_none (g.O.Sink.taken c.args.out.now) (g.E.Sink.taken c.args.err.now) _ (want refl refl (λ files t. l.2 files t) (record { store = l.3; input = refl; out = refl; err = refl }))
 
-pub returns-in-Err-NoMemory-clause-performed : goal.returns-in-Err-NoMemory-clause-performed
-returns-in-Err-NoMemory-clause-performed g c =
-    let k = rw c.in-Err-NoMemory.field-0-is at c.in-Err-NoMemory.ensures.cause in
-    came_none (g.O.Sink.taken c.args.out.now) (g.E.Sink.taken c.args.err.now) _ (want refl refl (λ files t. c.in-Err-NoMemory.ensures.kept files t) (record { store = k; input = refl; out = refl; err = refl }))
+pub returns-in-Failed-clause-performed : goal.returns-in-Failed-clause-performed
+returns-in-Failed-clause-performed g c =
+    let l = c.in-Failed.ensures.loaded in
+    came_none (g.O.Sink.taken c.args.out.now) (g.E.Sink.taken c.args.err.now) _ (load_failed c.in-Failed.at l.0 l.2 refl refl (λ files t. l.1 files t))
 
 pub returns-clause-performed : goal.returns-clause-performed
 returns-clause-performed g c =
-    let k = rw c.in-Err-Failed.field-0-is at c.in-Err-Failed.ensures.cause in
-    came_none (g.O.Sink.taken c.args.out.now) (g.E.Sink.taken c.args.err.now) _ (load_failed k refl refl (λ files t. c.in-Err-Failed.ensures.kept files t))
+    let l = c.in-NoMemory.ensures.loaded in
+    came_none (g.O.Sink.taken c.args.out.now) (g.E.Sink.taken c.args.err.now) _ (want refl refl (λ files t. l.0 files t) (record { store = l.1; input = refl; out = refl; err = refl }))

@@ -1,0 +1,33 @@
+-- From files to their bare tree.
+use Rattle.std.specs.Prelude.{ℕ, List}
+use Rattle.smlc_base.specs.declared.refusal.Refusal.{Refusal}
+use Rattle.smlc_base.specs.declared.refusal.CompileError.{CompileError}
+use Rattle.smlc_base.specs.declared.refusal.CompileError.TheVariants as error
+use Rattle.sml_lexer.specs.declared.lexed.Lexed.{Lexed}
+use Rattle.sml_lexer.specs.Programs.{IsLexed}
+use Rattle.sml_lexer.specs.Files as tokens
+use Rattle.sml_fixity.specs.Parse.{IsParse}
+use Rattle.sml_fixity.specs.Parse as syntax
+use Rattle.sml_derive.specs.Answer.{IsExpansion}
+use Rattle.sml_derive.specs.Answer as bindings
+use Rattle.sml_tree.specs.declared.tree.Tree.{Tree}
+use Rattle.sml_tree.specs.declared.bare.Bare.{Bare}
+
+-- the files have tokens, these are a program, and its bare tree is this one
+pub record HasTree (files : List (List ℕ)) (bare : Bare) : Type 0 where
+  pub lexed : Lexed
+  pub tree : Tree
+  pub lexes : IsLexed files lexed
+  pub parses : IsParse lexed tree
+  pub expands : IsExpansion tree bare
+
+-- With what files are refused that have no bare tree.
+pub data IsRefusal (files : List (List ℕ)) : Refusal → Type 0 where
+  by_tokens : (r : Refusal) → tokens.IsRefusal files r → IsRefusal files r
+  by_syntax : (lexed : Lexed) (r : Refusal) → IsLexed files lexed → syntax.IsRefusal lexed r → IsRefusal files r
+  by_bindings : (lexed : Lexed) (tree : Tree) (r : Refusal) → IsLexed files lexed → IsParse lexed tree → bindings.IsRefusal tree r → IsRefusal files r
+
+-- want of memory, or a refusal of the files
+abbrev pub Fails : List (List ℕ) → CompileError → Type 0
+Fails files error.NoMemory = Unit {0}
+Fails files (error.Refused r) = IsRefusal files r
