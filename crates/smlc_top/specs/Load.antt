@@ -1,5 +1,5 @@
 -- What loading files in order comes to.
-use Rattle.std.specs.Prelude.{ℕ, ◌≡◌, ◌<◌, Bool, true, false, List, length, map, take, Option, Some}
+use Rattle.std.specs.Prelude.{ℕ, ◌≡◌, Bool, true, false, List, length, map, Option}
 use Rattle.smlc_edge.specs.Edge.{Files, Fails}
 use Rattle.smlc_top.specs.declared.load.Loaded.{Loaded}
 use Rattle.smlc_top.specs.declared.load.Loaded.TheVariants as loaded

@@ -1,9 +1,8 @@
 //! The ELF file of a program of prints.
 
-ghost use Rattle.std.specs.Prelude.{◌≡◌, ◌<◌, ◌-◌, ◌^◌, length, map};
+ghost use Rattle.std.specs.Prelude.{◌<◌, ◌^◌, length, map};
 ghost use Rattle.smlc_top.specs.Build.{IsBuilt, IsMade, IsRefusal};
 ghost use Rattle.smlc_top.specs.Code.{IsStraight};
-ghost use Rattle.smlc_top.specs.Texts.{name_at};
 
 use crate::code::{Printed, make};
 use crate::front::tree_of;
