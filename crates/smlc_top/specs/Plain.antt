@@ -1,4 +1,4 @@
--- Programs of prints: each declaration is `val _ = print c` with a string constant c.
+-- Programs of prints: each declaration is `val _ = print c` with a string constant c. The library declares nothing yet, so all are the user's.
 use Rattle.std.specs.Prelude.{◌≡◌, ℕ, List, [], ◌∷◌, ◌++◌, Some, slice_get}
 use Rattle.smlc_base.specs.declared.place.Place.{Place}
 use Rattle.smlc_base.specs.declared.primitive.Primitive.TheVariants.{Print}
