@@ -1,0 +1,49 @@
+-- What a step of the expansion does to its state.
+use Rattle.std.specs.Prelude.{◌≡◌, ℕ, ◌++◌, List, Bool, true, false}
+use Rattle.sml_expansion.specs.declared.walk.Walk.{Walk}
+use Rattle.sml_expansion.specs.declared.mark.Mark.{Mark}
+use Rattle.sml_expansion.specs.declared.scope.Bindings.{Bindings}
+use Rattle.sml_expansion.specs.Sources.{Source}
+use Rattle.sml_expansion.specs.Forests.{Forest, count}
+use Rattle.sml_expansion.specs.Marks.{marks}
+use Rattle.sml_expansion.specs.Makings.{Makes}
+use Rattle.sml_expansion.specs.Scopes.{Scope, Env, scope_of}
+use Rattle.sml_expansion.specs.Patterns.{Pattern}
+use Rattle.sml_expansion.specs.Expressions.{Position, function_part, elsewhere}
+use Rattle.sml_derive.specs.declared.identifiers.Stands.{Stands}
+use Rattle.sml_derive.specs.declared.identifiers.Stands.TheVariants.{Applied, Elsewhere}
+
+-- the scope of a walk
+abbrev pub scope : Source → Walk → Scope
+scope s w = scope_of s.names w.bindings
+
+-- something is made, and nothing is written
+abbrev pub made : {A : Type 0} → Makes A → Walk → Walk
+made f w = record { made = (f w.made).1; bindings = w.bindings; marks = w.marks }
+
+-- marks are written
+abbrev pub marked : List Mark → Walk → Walk
+marked ms w = record { made = w.made; bindings = w.bindings; marks = w.marks ++ ms }
+
+-- trees are made and written, and the bindings stay
+abbrev pub behind : Makes Forest → Walk → Walk
+behind f w = record { made = (f w.made).1; bindings = w.bindings; marks = w.marks ++ marks (f w.made).0 }
+
+abbrev pub writes_pattern : Makes Pattern → Walk → Walk
+writes_pattern f w = record { made = (f w.made).1; bindings = w.bindings; marks = w.marks ++ marks (f w.made).0.forest }
+
+-- something comes into scope
+abbrev pub bound_too : Env → Bindings → Bindings
+bound_too e b = record { values = e.values ++ b.values; types = e.types ++ b.types; tyvars = b.tyvars }
+
+abbrev pub seen : Env → Walk → Walk
+seen e w = record { made = w.made; bindings = bound_too e w.bindings; marks = w.marks }
+
+-- so many trees are made and written
+pub record Writes (f : Makes Forest) (before after : Walk) (trees : ℕ) : Type 0 where
+  pub walk : after ≡ behind f before
+  pub written : trees ≡ count (f before.made).0
+
+abbrev pub position : Stands → Position
+position Applied = function_part
+position Elsewhere = elsewhere

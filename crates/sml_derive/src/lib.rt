@@ -1,0 +1,7 @@
+//! From the parse tree to the bare tree: expressions, matches, declarations and programs.
+#![tactic(auto)]
+
+mod expressions;
+mod forms;
+mod identifiers;
+mod parts;
