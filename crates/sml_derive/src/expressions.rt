@@ -1,79 +1,186 @@
-//! Expressions.
+//! Expressions and matches.
 
-ghost use Rattle.std.specs.Prelude.{◌≡◌, IfOk};
+ghost use Rattle.std.specs.Prelude.{◌≡◌, IfOk, OnOk, Bool};
+ghost use Rattle.sml_tree.specs.Parts.{parts_of};
 ghost use Rattle.sml_expansion.specs.Terms.{Term};
-ghost use Rattle.sml_expansion.specs.Sources.{IsAt};
-ghost use Rattle.sml_expansion.specs.Expressions.{expressions, rules};
-ghost use Rattle.sml_derive.specs.Steps.{Writes, scope, position};
+ghost use Rattle.sml_expansion.specs.Sources.{IsAt, node_at};
+ghost use Rattle.sml_expansion.specs.Expressions.{expressions, rules, elsewhere};
+ghost use Rattle.sml_derive.specs.Steps.{Writes, scope, position, behind};
+ghost use Rattle.sml_derive.specs.Pairs.{is_list, pair_of, match_of};
 
+use crate::forms;
+use crate::identifiers::{Stands, atom, identifier};
+use crate::number::add;
+use crate::pairs::{self, Matched, Pair};
+use crate::parts::{see, whole_pattern};
 use sml_expansion::{Parsed, Walk};
 use sml_tree::TreeNode;
-use sml_tree::bare::{Con, Node};
-use smlc_base::{NoMemory, Row};
+use sml_tree::bare::Node;
+use smlc_base::NoMemory;
 
+/// The expressions of a list, one for an expression alone.
 #[cycle(phrases)]
-pub fn expression(parsed: &Parsed, walk: &mut Walk, applied: bool, at: u32) -> Result<u32, NoMemory>
-    ensures { IfOk result (λ trees. (t : Term) → IsAt parsed.now at t → Writes (expressions (position applied) (scope parsed.now walk.old) t) walk.old walk.new trees) }
+pub(crate) fn expression(parsed: &Parsed, walk: &mut Walk, stands: Stands, at: u32) -> Result<u32, NoMemory>
+    ensures { IfOk result (λ trees. (t : Term) → IsAt parsed.now at t → Writes (expressions (position stands) (scope parsed.now walk.old) t) walk.old walk.new trees) }
 {
     match parsed.node(at) {
-        TreeNode::Paren => expression(parsed, walk, applied, parsed.one(at)),
-        TreeNode::Andalso => {
+        TreeNode::Paren => expression(parsed, walk, stands, parsed.one(at)),
+        TreeNode::Row => {
+            let (_, inner) = parsed.two(at);
+            expression(parsed, walk, Stands::Elsewhere, inner)
+        }
+        TreeNode::MoreItems => beside(parsed, walk, at),
+        TreeNode::MoreRows => beside(parsed, walk, at),
+        TreeNode::MoreSeq => beside(parsed, walk, at),
+        TreeNode::Andalso => pair(parsed, walk, Pair::Andalso, at),
+        TreeNode::Orelse => pair(parsed, walk, Pair::Orelse, at),
+        TreeNode::Case => matched(parsed, walk, Matched::Case, at),
+        TreeNode::Handle => matched(parsed, walk, Matched::Handle, at),
+        TreeNode::Raise => {
             let place = parsed.place(at);
-            let (a, b) = parsed.two(at);
             walk.open()?;
-            expression(parsed, walk, false, a)?;
-            walk.leaf(Node::PatCon(Con::Data { type_name: 4, number: 1, takes: true }), place)?;
-            expression(parsed, walk, false, b)?;
-            walk.leaf(Node::PatCon(Con::Data { type_name: 4, number: 0, takes: true }), place)?;
-            walk.leaf(Node::Constructor(Con::Data { type_name: 4, number: 0, takes: true }), place)?;
-            walk.close(Node::Case(0, Row::new(walk.allocator())), place)?;
+            expression(parsed, walk, Stands::Elsewhere, parsed.one(at))?;
+            walk.close(Node::Raise(0), place)?;
             Ok(1)
         }
         TreeNode::Fn => {
             let place = parsed.place(at);
             walk.open()?;
             rules(parsed, walk, parsed.one(at))?;
-            walk.close(Node::Fn(Row::new(walk.allocator())), place)?;
+            forms::close_fn(walk, place)?;
             Ok(1)
         }
-        _ => Err(NoMemory),
+        TreeNode::If => {
+            let place = parsed.place(at);
+            let (condition, first, second) = parsed.three(at);
+            walk.open()?;
+            expression(parsed, walk, Stands::Elsewhere, condition)?;
+            forms::if_true(walk, place)?;
+            expression(parsed, walk, Stands::Elsewhere, first)?;
+            forms::if_false(walk, place)?;
+            expression(parsed, walk, Stands::Elsewhere, second)?;
+            forms::close_case(walk, place)?;
+            Ok(1)
+        }
+        TreeNode::Apply => Err(NoMemory),
+        TreeNode::InfixExp => Err(NoMemory),
+        TreeNode::Tuple => Err(NoMemory),
+        TreeNode::Record => Err(NoMemory),
+        TreeNode::List => Err(NoMemory),
+        TreeNode::Sequence => Err(NoMemory),
+        TreeNode::Typed => Err(NoMemory),
+        TreeNode::While => Err(NoMemory),
+        TreeNode::Let => Err(NoMemory),
+        _ => atom(parsed, walk, stands, at),
     }
 }
 
+/// An expression and those behind it.
 #[cycle(phrases)]
-fn rules(parsed: &Parsed, walk: &mut Walk, at: u32) -> Result<u32, NoMemory>
-    ensures { IfOk result (λ trees. (t : Term) → IsAt parsed.now at t → Writes (rules (scope parsed.now walk.old) t) walk.old walk.new trees) }
+fn beside(parsed: &Parsed, walk: &mut Walk, at: u32) -> Result<u32, NoMemory>
+    requires { is_list (node_at parsed.now at) ≡ Bool.true }
+    ensures { IfOk result (λ trees. (t : Term) → IsAt parsed.now at t → Writes (expressions elsewhere (scope parsed.now walk.old) t) walk.old walk.new trees) }
 {
-    let mut at = at;
-    let mut trees = 0u32;
-    while let TreeNode::MoreRules = parsed.node(at) {
-        let (first, rest) = parsed.two(at);
-        let more = rule(parsed, walk, first)?;
-        trees = add(trees, more)?;
-        at = rest;
-    }
-    let more = rule(parsed, walk, at)?;
+    let (first, rest) = parsed.two(at);
+    let trees = expression(parsed, walk, Stands::Elsewhere, first)?;
+    let more = items(parsed, walk, rest)?;
     add(trees, more)
 }
 
+/// The expressions of a list.
 #[cycle(phrases)]
-fn rule(parsed: &Parsed, walk: &mut Walk, at: u32) -> Result<u32, NoMemory>
-    ensures { IfOk result (λ trees. (t : Term) → IsAt parsed.now at t → Writes (rules (scope parsed.now walk.old) t) walk.old walk.new trees) }
+fn items(parsed: &Parsed, walk: &mut Walk, at: u32) -> Result<u32, NoMemory>
+    ensures { IfOk result (λ trees. (t : Term) → IsAt parsed.now at t → Writes (expressions elsewhere (scope parsed.now walk.old) t) walk.old walk.new trees) }
+{
+    let mut next = at;
+    let mut trees = 0;
+    while is_list(parsed.node(next)) {
+        let (first, rest) = parsed.two(next);
+        let more = expression(parsed, walk, Stands::Elsewhere, first)?;
+        trees = add(trees, more)?;
+        next = rest;
+    }
+    let more = expression(parsed, walk, Stands::Elsewhere, next)?;
+    add(trees, more)
+}
+
+/// Whether it is an expression and those behind it.
+fn is_list(node: TreeNode) -> bool
+    ensures { result ≡ is_list node }
+{
+    match node {
+        TreeNode::MoreItems => true,
+        TreeNode::MoreRows => true,
+        TreeNode::MoreSeq => true,
+        _ => false,
+    }
+}
+
+/// An expression of two expressions.
+#[cycle(phrases)]
+fn pair(parsed: &Parsed, walk: &mut Walk, form: Pair, at: u32) -> Result<u32, NoMemory>
+    requires { parts_of (node_at parsed.now at) ≡ 2 }
+    ensures { IfOk result (λ trees. (t : Term) → IsAt parsed.now at t → Writes (pair_of form (scope parsed.now walk.old) t) walk.old walk.new trees) }
+{
+    let place = parsed.place(at);
+    let (first, second) = parsed.two(at);
+    walk.open()?;
+    expression(parsed, walk, pairs::first_of(form), first)?;
+    pairs::between(walk, form, place)?;
+    expression(parsed, walk, Stands::Elsewhere, second)?;
+    pairs::close_pair(walk, form, place)?;
+    Ok(1)
+}
+
+/// An expression of an expression and a match.
+#[cycle(phrases)]
+fn matched(parsed: &Parsed, walk: &mut Walk, form: Matched, at: u32) -> Result<u32, NoMemory>
+    requires { parts_of (node_at parsed.now at) ≡ 2 }
+    ensures { IfOk result (λ trees. (t : Term) → IsAt parsed.now at t → Writes (match_of form (scope parsed.now walk.old) t) walk.old walk.new trees) }
+{
+    let place = parsed.place(at);
+    let (first, second) = parsed.two(at);
+    walk.open()?;
+    expression(parsed, walk, Stands::Elsewhere, first)?;
+    rules(parsed, walk, second)?;
+    pairs::close_match(walk, form, place)?;
+    Ok(1)
+}
+
+/// The patterns and expressions of a match.
+#[cycle(phrases)]
+fn rules(parsed: &Parsed, walk: &mut Walk, at: u32) -> Result<(), NoMemory>
+    ensures { OnOk result ((t : Term) → IsAt parsed.now at t → walk.new ≡ behind (rules (scope parsed.now walk.old) t) walk.old) }
+{
+    let mut next = at;
+    while let TreeNode::MoreRules = parsed.node(next) {
+        let (first, rest) = parsed.two(next);
+        rule(parsed, walk, first)?;
+        next = rest;
+    }
+    rule(parsed, walk, next)
+}
+
+/// A rule: its pattern binds variables of its expression.
+#[cycle(phrases)]
+fn rule(parsed: &Parsed, walk: &mut Walk, at: u32) -> Result<(), NoMemory>
+    ensures { OnOk result ((t : Term) → IsAt parsed.now at t → walk.new ≡ behind (rules (scope parsed.now walk.old) t) walk.old) }
 {
     match parsed.node(at) {
         TreeNode::Rule => {
             let (pattern, body) = parsed.two(at);
-            let trees = expression(parsed, walk, false, body)?;
-            Err(NoMemory)
+            let around = walk.bindings.values.len();
+            let vars = whole_pattern(parsed, walk, pattern)?;
+            see(walk, &vars)?;
+            expression(parsed, walk, Stands::Elsewhere, body)?;
+            walk.bindings.values.undo_to(around);
+            Ok(())
         }
-        _ => Err(NoMemory),
-    }
-}
-
-fn add(one: u32, more: u32) -> Result<u32, NoMemory>
-{
-    match one.checked_add(more) {
-        Some(sum) => Ok(sum),
-        None => Err(NoMemory),
+        TreeNode::MoreRules => {
+            let (first, rest) = parsed.two(at);
+            rule(parsed, walk, first)?;
+            rules(parsed, walk, rest)
+        }
+        _ => Ok(()),
     }
 }

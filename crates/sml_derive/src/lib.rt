@@ -4,4 +4,6 @@
 mod expressions;
 mod forms;
 mod identifiers;
+mod number;
+mod pairs;
 mod parts;

@@ -1,0 +1,46 @@
+-- Expansions of phrases by their parts: what is written before, between and behind them.
+use Rattle.std.proofs.Common.{◌≡◌, ℕ, suc, ◌+◌, List, [], ◌∷◌, ◌++◌, refl, sym, ap, subst, ◌∙◌}
+use Rattle.std.proofs.lemmas.List.{append_assoc}
+use Rattle.sml_expansion.specs.declared.made.Made.{Made}
+use Rattle.sml_expansion.specs.declared.walk.Walk.{Walk}
+use Rattle.sml_expansion.specs.declared.mark.Mark.{Mark}
+use Rattle.sml_expansion.specs.declared.scope.Bindings.{Bindings}
+use Rattle.sml_expansion.specs.Forests.{Forest, count, ◌&◌}
+use Rattle.sml_expansion.specs.Marks.{marks}
+use Rattle.sml_expansion.specs.Makings.{Makes, gives, ◌>>=◌}
+use Rattle.sml_expansion.specs.Expressions.{both}
+use Rattle.sml_expansion.proofs.MarkLemmas.{marks_beside}
+use Rattle.sml_derive.specs.Steps.{made, marked, behind, Writes}
+use Rattle.sml_derive.proofs.Counting.{count_beside}
+
+-- The same, as what can be matched.
+pub data Is {A : Type 0} (x : A) : A → Type 0 where
+  same : Is x x
+
+pub is : {A : Type 0} {x y : A} → y ≡ x → Is x y
+is {x = x} e = subst (λ z. Is x z) (sym e) same
+
+pub marks_same : (w : Walk) (x y : List Mark) → x ≡ y → record w { marks = x } ≡ record w { marks = y }
+marks_same w x y e = ap (λ l. record w { marks = l }) e
+
+-- lists of marks one behind the other
+gathered : (l a b c : List Mark) → ((l ++ a) ++ b) ++ c ≡ l ++ (a ++ (b ++ c))
+gathered l a b c = append_assoc (l ++ a) b c ∙ append_assoc l a (b ++ c)
+
+pub gathered_two : (l a x b y c : List Mark) → ((((l ++ a) ++ x) ++ b) ++ y) ++ c ≡ l ++ (a ++ (x ++ (b ++ (y ++ c))))
+gathered_two l a x b y c = gathered ((l ++ a) ++ x) b y c ∙ gathered l a x (b ++ (y ++ c))
+
+pub gathered_three : (l a x b y c z d : List Mark) → ((((((l ++ a) ++ x) ++ b) ++ y) ++ c) ++ z) ++ d ≡ l ++ (a ++ (x ++ (b ++ (y ++ (c ++ (z ++ d))))))
+gathered_three l a x b y c z d = gathered ((((l ++ a) ++ x) ++ b) ++ y) c z d ∙ gathered_two l a x b y (c ++ (z ++ d))
+
+-- one part
+pub one_part : (F : Bindings → Makes Forest) (H : Forest → Forest) (ms : List Mark) (ns : Forest → List Mark) (w0 w1 w2 w3 : Walk)
+    → ((x : Forest) → marks (H x) ≡ ms ++ (marks x ++ ns x)) → ((x : Forest) → 1 ≡ count (H x))
+    → Is (marked ms w0) w1 → Is (behind (F w1.bindings) w1) w2 → Is (marked (ns (F w0.bindings w0.made).0) w2) w3
+    → Writes (◌>>=◌ (F w0.bindings) (λ x. gives (H x))) w0 w3 1
+one_part F H ms ns w0 _ _ _ spells single same same same =
+    let f = F w0.bindings w0.made in
+    record {
+      walk = marks_same (record w0 { made = f.1 }) _ _ (gathered w0.marks ms (marks f.0) (ns f.0) ∙ ap (λ l. w0.marks ++ l) (sym (spells f.0)));
+      written = single f.0;
+    }

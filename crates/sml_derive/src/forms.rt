@@ -1,0 +1,124 @@
+//! Nodes of derived forms: what stands before, between and behind their parts.
+
+ghost use Rattle.std.specs.Prelude.{◌≡◌, OnOk, ◌++◌, ◌∷◌, [], codes};
+ghost use Rattle.sml_tree.specs.declared.bare.Node.TheVariants as bare;
+ghost use Rattle.sml_expansion.specs.declared.mark.Mark.TheVariants.{Open, Close};
+ghost use Rattle.sml_expansion.specs.Forests.{grown, none};
+ghost use Rattle.sml_expansion.specs.Marks.{marks};
+ghost use Rattle.sml_expansion.specs.Makings.{gives};
+ghost use Rattle.sml_expansion.specs.Bare.{tuple_node, eta_node, con_true, con_false, con_pattern, con_node, fields};
+ghost use Rattle.sml_expansion.specs.Labels.{numbers};
+ghost use Rattle.sml_derive.specs.Steps.{behind, marked};
+ghost use Rattle.sml_derive.specs.Forms.{new_eta};
+
+use sml_expansion::Walk;
+use sml_expansion::labels::tuple_fields;
+use sml_tree::bare::{Con, Node};
+use smlc_base::{Name, NoMemory, Place, Row};
+
+pub(crate) const TRUE: Con = Con::Data {
+    type_name: 4,
+    number: 1,
+    takes: false,
+};
+pub(crate) const FALSE: Con = Con::Data {
+    type_name: 4,
+    number: 0,
+    takes: false,
+};
+pub(crate) const NIL: Con = Con::Data {
+    type_name: 5,
+    number: 0,
+    takes: false,
+};
+pub(crate) const CONS: Con = Con::Data {
+    type_name: 5,
+    number: 1,
+    takes: true,
+};
+
+/// `()`
+pub(crate) fn unit(walk: &mut Walk, place: Place) -> Result<(), NoMemory>
+    ensures { OnOk result (walk.new ≡ behind (gives (tuple_node place none)) walk.old) }
+{
+    let fields = Row::new(walk.allocator());
+    walk.leaf(Node::Record(fields), place)
+}
+
+/// The function that applies a primitive or a constructor.
+pub(crate) fn eta(walk: &mut Walk, place: Place, node: Node) -> Result<(), NoMemory>
+    ensures { OnOk result (walk.new ≡ behind (new_eta place (grown node place none)) walk.old) }
+{
+    let variable = walk.made.new_name(b"v")?;
+    walk.open()?;
+    walk.leaf(Node::PatVar(Name(variable)), place)?;
+    walk.open()?;
+    walk.leaf(node, place)?;
+    walk.leaf(Node::Var(Name(variable)), place)?;
+    walk.close(Node::App(0, 0), place)?;
+    close_fn(walk, place)
+}
+
+/// The end of a `fn`.
+pub(crate) fn close_fn(walk: &mut Walk, place: Place) -> Result<(), NoMemory>
+    ensures { OnOk result (walk.new ≡ marked (Close (bare.Fn []) place ∷ []) walk.old) }
+{
+    let rules = Row::new(walk.allocator());
+    walk.close(Node::Fn(rules), place)
+}
+
+/// The end of a `case`.
+pub(crate) fn close_case(walk: &mut Walk, place: Place) -> Result<(), NoMemory>
+    ensures { OnOk result (walk.new ≡ marked (Close (bare.Case 0 []) place ∷ []) walk.old) }
+{
+    let rules = Row::new(walk.allocator());
+    walk.close(Node::Case(0, rules), place)
+}
+
+/// The end of a `handle`.
+pub(crate) fn close_handle(walk: &mut Walk, place: Place) -> Result<(), NoMemory>
+    ensures { OnOk result (walk.new ≡ marked (Close (bare.Handle 0 []) place ∷ []) walk.old) }
+{
+    let rules = Row::new(walk.allocator());
+    walk.close(Node::Handle(0, rules), place)
+}
+
+/// The end of a conditional whose third part is written.
+pub(crate) fn close_andalso(walk: &mut Walk, place: Place) -> Result<(), NoMemory>
+    ensures { OnOk result (walk.new ≡ marked (marks (con_pattern place con_false) ++ (marks (con_node place con_false) ++ (Close (bare.Case 0 []) place ∷ []))) walk.old) }
+{
+    walk.leaf(Node::PatCon(FALSE), place)?;
+    walk.leaf(Node::Constructor(FALSE), place)?;
+    close_case(walk, place)
+}
+
+/// Between the first part of an `orelse` and the second.
+pub(crate) fn or_true(walk: &mut Walk, place: Place) -> Result<(), NoMemory>
+    ensures { OnOk result (walk.new ≡ marked (marks (con_pattern place con_true) ++ (marks (con_node place con_true) ++ marks (con_pattern place con_false))) walk.old) }
+{
+    walk.leaf(Node::PatCon(TRUE), place)?;
+    walk.leaf(Node::Constructor(TRUE), place)?;
+    walk.leaf(Node::PatCon(FALSE), place)
+}
+
+/// Between the condition and the first branch.
+pub(crate) fn if_true(walk: &mut Walk, place: Place) -> Result<(), NoMemory>
+    ensures { OnOk result (walk.new ≡ marked (marks (con_pattern place con_true)) walk.old) }
+{
+    walk.leaf(Node::PatCon(TRUE), place)
+}
+
+/// Between the branches.
+pub(crate) fn if_false(walk: &mut Walk, place: Place) -> Result<(), NoMemory>
+    ensures { OnOk result (walk.new ≡ marked (marks (con_pattern place con_false)) walk.old) }
+{
+    walk.leaf(Node::PatCon(FALSE), place)
+}
+
+/// The end of a tuple with so many fields.
+pub(crate) fn close_tuple(walk: &mut Walk, place: Place, count: u32) -> Result<(), NoMemory>
+    ensures { OnOk result (walk.new ≡ marked (Close (bare.Record (fields (numbers 0 count))) place ∷ []) walk.old) }
+{
+    let row = tuple_fields(walk.allocator(), count)?;
+    walk.close(Node::Record(row), place)
+}

@@ -1,0 +1,15 @@
+//! Numbers of trees.
+
+ghost use Rattle.std.specs.Prelude.{◌≡◌, ◌+◌, IfOk};
+
+use smlc_base::NoMemory;
+
+/// Two numbers of trees together. There is no memory for more trees than numbers.
+pub(crate) fn add(trees: u32, more: u32) -> Result<u32, NoMemory>
+    ensures { IfOk result (λ sum. sum ≡ trees + more) }
+{
+    match trees.checked_add(more) {
+        Some(sum) => Ok(sum),
+        None => Err(NoMemory),
+    }
+}
