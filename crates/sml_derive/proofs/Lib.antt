@@ -1,4 +1,5 @@
 pub mod Atoms
 pub mod Counting
+pub mod FormLemmas
 pub mod Schemas
 pub mod Spines

@@ -3,6 +3,7 @@ use Rattle.std.specs.Prelude.{◌≡◌, ℕ, ◌++◌, List, Bool, true, false}
 use Rattle.sml_expansion.specs.declared.walk.Walk.{Walk}
 use Rattle.sml_expansion.specs.declared.mark.Mark.{Mark}
 use Rattle.sml_expansion.specs.declared.scope.Bindings.{Bindings}
+use Rattle.sml_expansion.specs.Scoped.{oldest}
 use Rattle.sml_expansion.specs.Sources.{Source}
 use Rattle.sml_expansion.specs.Forests.{Forest, count}
 use Rattle.sml_expansion.specs.Marks.{marks}
@@ -47,3 +48,7 @@ pub record Writes (f : Makes Forest) (before after : Walk) (trees : ℕ) : Type 
 abbrev pub position : Stands → Position
 position Applied = function_part
 position Elsewhere = elsewhere
+
+-- what was bound since there were n values goes out of scope
+abbrev pub unseen : ℕ → Walk → Walk
+unseen n w = record { made = w.made; bindings = record { values = oldest n w.bindings.values; types = w.bindings.types; tyvars = w.bindings.tyvars }; marks = w.marks }

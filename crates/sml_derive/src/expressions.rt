@@ -12,7 +12,9 @@ use crate::forms;
 use crate::identifiers::{Stands, atom, identifier};
 use crate::number::add;
 use crate::pairs::{self, Matched, Pair};
-use crate::parts::{see, whole_pattern};
+use crate::functions::fn_match;
+use crate::parts::{labels, see, type_of, unsee, whole_pattern};
+use sml_expansion::once::labels_once;
 use sml_expansion::{Parsed, Walk};
 use sml_tree::TreeNode;
 use sml_tree::bare::Node;
@@ -62,13 +64,64 @@ pub(crate) fn expression(parsed: &Parsed, walk: &mut Walk, stands: Stands, at: u
             forms::close_case(walk, place)?;
             Ok(1)
         }
-        TreeNode::Apply => Err(NoMemory),
-        TreeNode::InfixExp => Err(NoMemory),
-        TreeNode::Tuple => Err(NoMemory),
-        TreeNode::Record => Err(NoMemory),
+        TreeNode::Apply => {
+            let (function, argument) = parsed.two(at);
+            match fn_match(parsed, function) {
+                Some(body) => {
+                    let place = parsed.place(at);
+                    walk.open()?;
+                    expression(parsed, walk, Stands::Elsewhere, argument)?;
+                    rules(parsed, walk, body)?;
+                    forms::close_case(walk, place)?;
+                    Ok(1)
+                }
+                None => pair(parsed, walk, Pair::Apply, at),
+            }
+        }
+        TreeNode::InfixExp => {
+            let place = parsed.place(at);
+            let (left, operator, right) = parsed.three(at);
+            walk.open()?;
+            identifier(parsed, walk, Stands::Applied, parsed.place(operator), parsed.ident(operator))?;
+            walk.open()?;
+            let trees = expression(parsed, walk, Stands::Elsewhere, left)?;
+            let more = expression(parsed, walk, Stands::Elsewhere, right)?;
+            let all = add(trees, more)?;
+            forms::close_tuple(walk, place, all)?;
+            walk.close(Node::App(0, 0), place)?;
+            Ok(1)
+        }
+        TreeNode::Tuple => {
+            let place = parsed.place(at);
+            let (first, rest) = parsed.two(at);
+            walk.open()?;
+            let trees = expression(parsed, walk, Stands::Elsewhere, first)?;
+            let more = items(parsed, walk, rest)?;
+            let all = add(trees, more)?;
+            forms::close_tuple(walk, place, all)?;
+            Ok(1)
+        }
+        TreeNode::Record => {
+            let place = parsed.place(at);
+            let rows = parsed.one(at);
+            let labs = labels(parsed, walk, rows)?;
+            labels_once(&mut walk.made, &labs)?;
+            walk.open()?;
+            items(parsed, walk, rows)?;
+            forms::close_record(walk, place, labs)?;
+            Ok(1)
+        }
         TreeNode::List => Err(NoMemory),
         TreeNode::Sequence => Err(NoMemory),
-        TreeNode::Typed => Err(NoMemory),
+        TreeNode::Typed => {
+            let place = parsed.place(at);
+            let (inner, written) = parsed.two(at);
+            let ty = type_of(parsed, walk, written)?;
+            walk.open()?;
+            expression(parsed, walk, Stands::Elsewhere, inner)?;
+            walk.close(Node::Typed(0, ty), place)?;
+            Ok(1)
+        }
         TreeNode::While => Err(NoMemory),
         TreeNode::Let => Err(NoMemory),
         _ => atom(parsed, walk, stands, at),
@@ -173,7 +226,7 @@ fn rule(parsed: &Parsed, walk: &mut Walk, at: u32) -> Result<(), NoMemory>
             let vars = whole_pattern(parsed, walk, pattern)?;
             see(walk, &vars)?;
             expression(parsed, walk, Stands::Elsewhere, body)?;
-            walk.bindings.values.undo_to(around);
+            unsee(walk, around);
             Ok(())
         }
         TreeNode::MoreRules => {

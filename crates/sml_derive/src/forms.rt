@@ -8,12 +8,13 @@ ghost use Rattle.sml_expansion.specs.Marks.{marks};
 ghost use Rattle.sml_expansion.specs.Makings.{gives};
 ghost use Rattle.sml_expansion.specs.Bare.{tuple_node, eta_node, con_true, con_false, con_pattern, con_node, fields};
 ghost use Rattle.sml_expansion.specs.Labels.{numbers};
+ghost use Rattle.sml_expansion.specs.Types.{labs_of};
 ghost use Rattle.sml_derive.specs.Steps.{behind, marked};
 ghost use Rattle.sml_derive.specs.Forms.{new_eta};
 
 use sml_expansion::Walk;
-use sml_expansion::labels::tuple_fields;
-use sml_tree::bare::{Con, Node};
+use sml_expansion::labels::{fields, tuple_fields};
+use sml_tree::bare::{Con, Lab, Node};
 use smlc_base::{Name, NoMemory, Place, Row};
 
 pub(crate) const TRUE: Con = Con::Data {
@@ -120,5 +121,13 @@ pub(crate) fn close_tuple(walk: &mut Walk, place: Place, count: u32) -> Result<(
     ensures { OnOk result (walk.new ≡ marked (Close (bare.Record (fields (numbers 0 count))) place ∷ []) walk.old) }
 {
     let row = tuple_fields(walk.allocator(), count)?;
+    walk.close(Node::Record(row), place)
+}
+
+/// The end of a record with these labels.
+pub(crate) fn close_record(walk: &mut Walk, place: Place, labs: Vec<(Lab, Place)>) -> Result<(), NoMemory>
+    ensures { OnOk result (walk.new ≡ marked (Close (bare.Record (fields (labs_of labs.items))) place ∷ []) walk.old) }
+{
+    let row = fields(walk.allocator(), labs)?;
     walk.close(Node::Record(row), place)
 }

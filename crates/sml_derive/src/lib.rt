@@ -3,6 +3,7 @@
 
 mod expressions;
 mod forms;
+mod functions;
 mod identifiers;
 mod number;
 mod pairs;

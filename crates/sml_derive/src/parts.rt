@@ -5,7 +5,7 @@ ghost use Rattle.sml_expansion.specs.Terms.{Term};
 ghost use Rattle.sml_expansion.specs.Sources.{IsAt};
 ghost use Rattle.sml_expansion.specs.Types.{labels, type_of};
 ghost use Rattle.sml_expansion.specs.Patterns.{whole, patterns, env_of};
-ghost use Rattle.sml_derive.specs.Steps.{scope, made, writes_pattern, seen};
+ghost use Rattle.sml_derive.specs.Steps.{scope, made, writes_pattern, seen, unseen};
 
 use sml_expansion::{Bound, Parsed, Walk};
 use sml_tree::bare::Lab;
@@ -39,4 +39,11 @@ pub fn see(walk: &mut Walk, vars: &[Bound]) -> Result<(), NoMemory>
     ensures { OnOk result (walk.new ≡ seen (env_of vars.now) walk.old) }
 {
     Err(NoMemory)
+}
+
+/// The variables since so many bindings go out of scope.
+pub fn unsee(walk: &mut Walk, around: usize)
+    ensures { walk.new ≡ unseen around walk.old }
+{
+    walk.bindings.values.undo_to(around);
 }

@@ -1,0 +1,139 @@
+-- Each form of expression by its parts.
+use Rattle.std.proofs.Common.{◌≡◌, ℕ, suc, ◌+◌, Bool, true, false, List, [], ◌∷◌, ◌++◌, length, refl, sym, ap, subst, ◌∙◌}
+use Rattle.std.specs.Prelude.{Option, Some, None}
+use Rattle.std.proofs.lemmas.List.{append_assoc}
+use Rattle.smlc_base.specs.declared.place.Place.{Place}
+use Rattle.sml_tree.specs.declared.tree_node.TreeNode.{TreeNode}
+use Rattle.sml_tree.specs.declared.tree_node.TreeNode.TheVariants as node
+use Rattle.sml_tree.specs.declared.bare.Node.TheVariants as bare
+use Rattle.sml_tree.specs.Parts.{parts_of}
+use Rattle.sml_expansion.specs.declared.walk.Walk.{Walk}
+use Rattle.sml_expansion.specs.declared.mark.Mark.{Mark}
+use Rattle.sml_expansion.specs.declared.mark.Mark.TheVariants.{Open, Close}
+use Rattle.sml_expansion.specs.declared.scope.Bound.{Bound}
+use Rattle.sml_expansion.specs.declared.scope.Bindings.{Bindings}
+use Rattle.sml_expansion.specs.Terms.{Term, leaf, one, two, three, four}
+use Rattle.sml_expansion.specs.Sources.{Source, IsAt, node_at}
+use Rattle.sml_expansion.specs.Scopes.{Scope, scope_of, within}
+use Rattle.sml_expansion.specs.Scoped.{oldest}
+use Rattle.sml_expansion.specs.Forests.{Forest, none, tree, grown, count, ◌&◌}
+use Rattle.sml_expansion.specs.Labels.{numbers}
+use Rattle.sml_expansion.specs.Bare.{fields, tuple_node, apply_node, case_node, fn_node, if_node, con_pattern, con_node, con_true, con_false}
+use Rattle.sml_expansion.specs.Marks.{marks}
+use Rattle.sml_expansion.specs.Makings.{Makes, gives, ◌>>=◌}
+use Rattle.sml_expansion.specs.Patterns.{whole, patterns, env_of}
+use Rattle.sml_expansion.specs.Expressions.{Position, function_part, elsewhere, expressions, rules, rule, both, is_fn, application}
+use Rattle.sml_expansion.proofs.MarkLemmas.{marks_beside}
+use Rattle.sml_expansion.proofs.ScopedLemmas.{oldest_behind}
+use Rattle.sml_expansion.proofs.Shapes.{as_two}
+use Rattle.sml_derive.specs.declared.pairs.Pair.{Pair}
+use Rattle.sml_derive.specs.declared.pairs.Pair.TheVariants as pair
+use Rattle.sml_derive.specs.declared.pairs.Matched.{Matched}
+use Rattle.sml_derive.specs.declared.pairs.Matched.TheVariants as matched
+use Rattle.sml_derive.specs.Pairs.{is_list, pair_node, between, behind_pair, match_node, behind_match}
+use Rattle.sml_derive.specs.Functions.{match_in}
+use Rattle.sml_derive.specs.Steps.{scope, marked, behind, writes_pattern, seen, unseen, Writes}
+use Rattle.sml_derive.proofs.Schemas.{Is, same, is, marks_same, one_part, two_parts, unmarked}
+
+-- lists
+list_parts : (n : TreeNode) → is_list n ≡ true → parts_of n ≡ 2
+list_parts node.MoreItems e = refl
+list_parts node.MoreRows e = refl
+list_parts node.MoreSeq e = refl
+list_parts _ e = cc
+
+list_both : (n : TreeNode) (s : Scope) (p : Place) (a b : Term) → is_list n ≡ true → expressions elsewhere s (two n p a b) ≡ both (expressions elsewhere s a) (expressions elsewhere s b)
+list_both node.MoreItems s p a b e = refl
+list_both node.MoreRows s p a b e = refl
+list_both node.MoreSeq s p a b e = refl
+list_both _ s p a b e = cc
+
+pub as_list : (s : Source) (i : ℕ) (t : Term) → IsAt s i t → is_list (node_at s i) ≡ true → (P : Term → Type 0)
+    → ((n : TreeNode) (p : Place) (a b : Term) → IsAt s i (two n p a b) → ((c : Scope) → expressions elsewhere c (two n p a b) ≡ both (expressions elsewhere c a) (expressions elsewhere c b)) → P (two n p a b)) → P t
+as_list s i t k e P f = as_two s i t (node_at s i) k refl (list_parts (node_at s i) e) P (λ p a b h. f (node_at s i) p a b h (λ c. list_both (node_at s i) c p a b e))
+
+-- pairs
+pub pair_spells : (f : Pair) (p : Place) (x y : Forest) → marks (pair_node f p x y) ≡ (Open ∷ []) ++ (marks x ++ (between f p ++ (marks y ++ behind_pair f p)))
+pair_spells pair.Apply p x y = simp (marks_beside, append_assoc)
+pair_spells pair.Andalso p x y = simp (marks_beside, append_assoc)
+pair_spells pair.Orelse p x y = simp (marks_beside, append_assoc)
+
+pub pair_single : (f : Pair) (p : Place) (x y : Forest) → 1 ≡ count (pair_node f p x y)
+pair_single pair.Apply p x y = refl
+pair_single pair.Andalso p x y = refl
+pair_single pair.Orelse p x y = refl
+
+pub match_spells : (f : Matched) (p : Place) (x y : Forest) → marks (match_node f p x y) ≡ (Open ∷ []) ++ (marks x ++ ([] ++ (marks y ++ behind_match f p)))
+match_spells matched.Case p x y = simp (marks_beside, append_assoc)
+match_spells matched.Handle p x y = simp (marks_beside, append_assoc)
+
+pub match_single : (f : Matched) (p : Place) (x y : Forest) → 1 ≡ count (match_node f p x y)
+match_single matched.Case p x y = refl
+match_single matched.Handle p x y = refl
+
+pub if_spells : (p : Place) (x y z : Forest) → marks (if_node p x y z) ≡ (Open ∷ []) ++ (marks x ++ (marks (con_pattern p con_true) ++ (marks y ++ (marks (con_pattern p con_false) ++ (marks z ++ Close (bare.Case 0 []) p ∷ [])))))
+if_spells p x y z = simp (marks_beside, append_assoc)
+
+-- tuples
+pub tuple_writes : (F : Bindings → Makes Forest) (q : Place) (w0 w1 w2 w3 : Walk) (k : ℕ) → Is (marked (Open ∷ []) w0) w1 → Writes (F w1.bindings) w1 w2 k → Is (marked (Close (bare.Record (fields (numbers 0 k))) q ∷ []) w2) w3
+    → Writes (◌>>=◌ (F w0.bindings) (λ x. gives (tuple_node q x))) w0 w3 1
+tuple_writes F q w0 w1 w2 w3 k a h b = step w1 a (is h.walk) h.written
+  where
+    step : (w1 : Walk) → Is (marked (Open ∷ []) w0) w1 → Is (behind (F w1.bindings) w1) w2 → k ≡ count (F w1.bindings w1.made).0 → Writes (◌>>=◌ (F w0.bindings) (λ x. gives (tuple_node q x))) w0 w3 1
+    step _ same g n = one_part F (λ x. tuple_node q x) (Open ∷ []) (λ x. Close (bare.Record (fields (numbers 0 (count x)))) q ∷ []) w0 _ w2 w3 (λ x. refl) (λ x. refl) same g (subst (λ m. Is (marked (Close (bare.Record (fields (numbers 0 m))) q ∷ []) w2) w3) n b)
+
+-- rules
+pub rule_writes : (s : Source) (q a : Term) (w0 : Walk) (n : ℕ) (w1 w2 w3 w4 : Walk) (vars : List Bound)
+    → Is (writes_pattern (whole (patterns (scope s w0) q)) w0) w1 → Is (whole (patterns (scope s w0) q) w0.made).0.vars vars → Is (seen (env_of vars) w1) w2
+    → Is (behind (expressions elsewhere (scope s w2) a) w2) w3 → length w0.bindings.values ≡ n → Is (unseen n w3) w4
+    → w4 ≡ behind (rule (patterns (scope s w0) q) (λ e. expressions elsewhere (within (scope s w0) e) a)) w0
+rule_writes s q a w0 n _ _ _ _ _ same same same same e same =
+    let x = whole (patterns (scope s w0) q) w0.made in
+    let y = expressions elsewhere (within (scope s w0) (env_of x.0.vars)) a x.1 in
+    ap (λ b. record { made = y.1; bindings = record { values = b; types = w0.bindings.types; tyvars = w0.bindings.tyvars }; marks = (w0.marks ++ marks x.0.forest) ++ marks y.0 }) (oldest_behind n (env_of x.0.vars).values w0.bindings.values e)
+    ∙ marks_same (record w0 { made = y.1 }) _ _ (append_assoc w0.marks (marks x.0.forest) (marks y.0) ∙ ap (λ l. w0.marks ++ l) (sym (marks_beside x.0.forest y.0)))
+
+rule_nothing : (n : TreeNode) (s : Scope) (p : Place) (a b : Term) → (n ≡ node.Rule → ⊥) → (n ≡ node.MoreRules → ⊥) → rules s (two n p a b) ≡ gives none
+rule_nothing node.Rule s p a b e f = absurd (e refl)
+rule_nothing node.MoreRules s p a b e f = absurd (f refl)
+rule_nothing _ s p a b e f = refl
+
+pub no_rules : (s : Scope) (t : Term) (n : TreeNode) → ((p : Place) (a b : Term) → t ≡ two node.Rule p a b → ⊥) → ((p : Place) (a b : Term) → t ≡ two node.MoreRules p a b → ⊥) → rules s t ≡ gives none
+no_rules s (leaf n p) m e f = refl
+no_rules s (one n p a) m e f = refl
+no_rules s (two n p a b) m e f = rule_nothing n s p a b (λ x. e p a b (ap (λ o. two o p a b) x)) (λ x. f p a b (ap (λ o. two o p a b) x))
+no_rules s (three n p a b c) m e f = refl
+no_rules s (four n p a b c d) m e f = refl
+
+-- functions that are applied
+pub is_plain : (t : Term) → match_in t ≡ None → is_fn t ≡ false
+is_plain (leaf n p) e = refl
+is_plain (one node.Paren p a) e = is_plain a e
+is_plain (one node.Fn p a) e = cc
+is_plain (one _ p a) e = refl
+is_plain (two n p a b) e = refl
+is_plain (three n p a b c) e = refl
+is_plain (four n p a b c d) e = refl
+
+pub record IsFn (f m : Term) : Type 0 where
+  pub place : Place
+  pub is_fn : is_fn f ≡ true
+  pub same : (h : Position) (s : Scope) → expressions h s f ≡ ◌>>=◌ (rules s m) (λ y. gives (fn_node place y))
+
+pub is_applied : (t m : Term) → match_in t ≡ Some m → IsFn t m
+is_applied (leaf n p) m e = cc
+is_applied (one node.Paren p a) m e = let i = is_applied a m e in record { place = i.place; is_fn = i.is_fn; same = i.same }
+is_applied (one node.Fn p a) m e = let k : a ≡ m = cc in record { place = p; is_fn = refl; same = λ h s. ap (λ (x : Term). ◌>>=◌ (rules s x) (λ y. gives (fn_node p y))) k }
+is_applied (one _ p a) m e = cc
+is_applied (two n p a b) m e = cc
+is_applied (three n p a b c) m e = cc
+is_applied (four n p a b c d) m e = cc
+
+pub plain_pair : (h : Position) (s : Scope) (p : Place) (f a : Term) → match_in f ≡ None → expressions h s (two node.Apply p f a) ≡ application false p (expressions function_part s f) (expressions elsewhere s a)
+plain_pair h s p f a e = ap (λ b. application b p (expressions function_part s f) (expressions elsewhere s a)) (is_plain f e)
+
+pub applied_pair : (h : Position) (s : Scope) (p : Place) (f a m : Term) → match_in f ≡ Some m → expressions h s (two node.Apply p f a) ≡ ◌>>=◌ (expressions elsewhere s a) (λ x. ◌>>=◌ (rules s m) (λ y. gives (case_node p x y)))
+applied_pair h s p f a m e =
+    let i = is_applied f m e in
+    ap (λ b. application b p (expressions function_part s f) (expressions elsewhere s a)) i.is_fn
+    ∙ ap (λ g. application true p g (expressions elsewhere s a)) (i.same function_part s)
