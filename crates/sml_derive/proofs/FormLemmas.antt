@@ -12,15 +12,18 @@ use Rattle.sml_expansion.specs.declared.mark.Mark.{Mark}
 use Rattle.sml_expansion.specs.declared.mark.Mark.TheVariants.{Open, Close}
 use Rattle.sml_expansion.specs.declared.scope.Bound.{Bound}
 use Rattle.sml_expansion.specs.declared.scope.Bindings.{Bindings}
-use Rattle.sml_expansion.specs.Terms.{Term, leaf, one, two, three, four}
+use Rattle.sml_expansion.specs.Terms.{Term, leaf, one, two, three, four, node_of}
 use Rattle.sml_expansion.specs.Sources.{Source, IsAt, node_at}
 use Rattle.sml_expansion.specs.Scopes.{Scope, scope_of, within}
 use Rattle.sml_expansion.specs.Scoped.{oldest}
 use Rattle.sml_expansion.specs.Forests.{Forest, none, tree, grown, count, ◌&◌}
 use Rattle.sml_expansion.specs.Labels.{numbers}
-use Rattle.sml_expansion.specs.Bare.{fields, tuple_node, apply_node, case_node, fn_node, if_node, con_pattern, con_node, con_true, con_false}
+use Rattle.sml_expansion.specs.Types.{labels, labels_once, labs_of, type_of}
+use Rattle.sml_expansion.specs.declared.made.Made.{Made}
+use Rattle.sml_tree.specs.declared.bare.Lab.{Lab}
+use Rattle.sml_expansion.specs.Bare.{fields, record_node, typed_node, tuple_node, apply_node, case_node, fn_node, if_node, con_pattern, con_node, con_true, con_false}
 use Rattle.sml_expansion.specs.Marks.{marks}
-use Rattle.sml_expansion.specs.Makings.{Makes, gives, ◌>>=◌}
+use Rattle.sml_expansion.specs.Makings.{Makes, gives, ◌>>=◌, ◌>>◌}
 use Rattle.sml_expansion.specs.Patterns.{whole, patterns, env_of}
 use Rattle.sml_expansion.specs.Expressions.{Position, function_part, elsewhere, expressions, rules, rule, both, is_fn, application}
 use Rattle.sml_expansion.proofs.MarkLemmas.{marks_beside}
@@ -31,8 +34,8 @@ use Rattle.sml_derive.specs.declared.pairs.Pair.TheVariants as pair
 use Rattle.sml_derive.specs.declared.pairs.Matched.{Matched}
 use Rattle.sml_derive.specs.declared.pairs.Matched.TheVariants as matched
 use Rattle.sml_derive.specs.Pairs.{is_list, pair_node, between, behind_pair, match_node, behind_match}
-use Rattle.sml_derive.specs.Functions.{match_in}
-use Rattle.sml_derive.specs.Steps.{scope, marked, behind, writes_pattern, seen, unseen, Writes}
+use Rattle.sml_derive.specs.Functions.{match_in, Finds}
+use Rattle.sml_derive.specs.Steps.{scope, made, marked, behind, writes_pattern, seen, unseen, Writes}
 use Rattle.sml_derive.proofs.Schemas.{Is, same, is, marks_same, one_part, two_parts, unmarked}
 
 -- lists
@@ -137,3 +140,50 @@ applied_pair h s p f a m e =
     let i = is_applied f m e in
     ap (λ b. application b p (expressions function_part s f) (expressions elsewhere s a)) i.is_fn
     ∙ ap (λ g. application true p g (expressions elsewhere s a)) (i.same function_part s)
+
+pub no_match : (t : Term) (n : TreeNode) → n ≡ node_of t → (n ≡ node.Fn → ⊥) → (n ≡ node.Paren → ⊥) → match_in t ≡ None
+no_match (leaf m p) n e f g = refl
+no_match (one node.Fn p a) n e f g = absurd (f e)
+no_match (one node.Paren p a) n e f g = absurd (g e)
+no_match (one _ p a) n e f g = refl
+no_match (two m p a b) n e f g = refl
+no_match (three m p a b c) n e f g = refl
+no_match (four m p a b c d) n e f g = refl
+
+pub record Found (s : Source) (o : Option Term) (i : ℕ) : Type 0 where
+  pub tree : Term
+  pub is : o ≡ Some tree
+  pub stands : IsAt s i tree
+
+pub found : (s : Source) (o : Option Term) (i : ℕ) → Finds s o (Some i) → Found s o i
+found s (Some m) i h = record { tree = m; is = refl; stands = h }
+found s None i h = absurd h
+
+pub not_found : (s : Source) (o : Option Term) → Finds s o None → o ≡ None
+not_found s (Some m) h = absurd h
+not_found s None h = refl
+
+-- something is made before a tree
+pub then_writes : (k : Makes (Unit {0})) (f : Makes Forest) (w v : Walk) (n : ℕ) → Writes f (made k w) v n → Writes (◌>>◌ k f) w v n
+then_writes k f w v n r = record { walk = r.walk; written = r.written }
+
+pub bind_writes : {A : Type 0} (k : Makes A) (f : A → Makes Forest) (w v : Walk) (n : ℕ) → Writes (f (k w.made).0) (made k w) v n → Writes (◌>>=◌ k f) w v n
+bind_writes k f w v n r = record { walk = r.walk; written = r.written }
+
+pub record_writes : (s : Source) (h : Position) (q : Place) (a : Term) (w0 : Walk) (labs again : List (Lab × Place)) (m : Made) (w1 w2 w3 : Walk)
+    → Is (labels s.names a) labs → Is labs again → Is (labels_once again w0.made).1 m → Is (marked (Open ∷ []) (record w0 { made = m })) w1
+    → Is (behind (expressions elsewhere (scope s w1) a) w1) w2 → Is (marked (Close (bare.Record (fields (labs_of labs))) q ∷ []) w2) w3
+    → Writes (expressions h (scope s w0) (one node.Record q a)) w0 w3 1
+record_writes s h q a w0 _ _ _ w1 w2 w3 same same same b e g =
+    let labs = labels s.names a in
+    then_writes (labels_once labs) (◌>>=◌ (expressions elsewhere (scope s w0) a) (λ x. gives (record_node q (labs_of labs) x))) w0 w3 1
+      (one_part (λ d. expressions elsewhere (scope_of s.names d) a) (λ x. record_node q (labs_of labs) x) (Open ∷ []) (λ x. Close (bare.Record (fields (labs_of labs))) q ∷ []) (made (labels_once labs) w0) w1 w2 w3 (λ x. refl) (λ x. refl) b e g)
+
+pub typed_writes : (s : Source) (h : Position) (q : Place) (a t : Term) (w0 : Walk) (ty : ℕ) (w1 w2 w3 w4 : Walk)
+    → Is (made (type_of (scope s w0) t) w0) w1 → Is (type_of (scope s w0) t w0.made).0 ty → Is (marked (Open ∷ []) w1) w2
+    → Is (behind (expressions elsewhere (scope s w2) a) w2) w3 → Is (marked (Close (bare.Typed 0 ty) q ∷ []) w3) w4
+    → Writes (expressions h (scope s w0) (two node.Typed q a t)) w0 w4 1
+typed_writes s h q a t w0 _ _ w2 w3 w4 same same b e g =
+    let ty = (type_of (scope s w0) t w0.made).0 in
+    bind_writes (type_of (scope s w0) t) (λ ty. ◌>>=◌ (expressions elsewhere (scope s w0) a) (λ x. gives (typed_node q (ty ∷ []) x))) w0 w4 1
+      (one_part (λ d. expressions elsewhere (scope_of s.names d) a) (λ x. grown (bare.Typed 0 ty) q x) (Open ∷ []) (λ x. Close (bare.Typed 0 ty) q ∷ []) (made (type_of (scope s w0) t) w0) w2 w3 w4 (λ x. refl) (λ x. refl) b e g)

@@ -2,13 +2,13 @@ use Rattle.std.proofs.Common.{◌≡◌, ◌+◌, ◌++◌, ℕ, List, [], ◌�
 use Rattle.sml_tree.specs.declared.tree_node.TreeNode.TheVariants as node
 use Rattle.sml_tree.specs.declared.bare.Node.TheVariants as bare
 use Rattle.sml_expansion.specs.declared.mark.Mark.TheVariants.{Open, Close}
-use Rattle.sml_expansion.specs.Terms.{Term, leaf, one, two, three}
+use Rattle.sml_expansion.specs.Terms.{Term, leaf, one, two, three, place_at}
 use Rattle.sml_expansion.specs.Sources.{IsAt, node_at}
-use Rattle.sml_expansion.specs.Scopes.{scope_of}
+use Rattle.sml_expansion.specs.Scopes.{scope_of, ident}
 use Rattle.sml_expansion.specs.Forests.{grown, none}
-use Rattle.sml_expansion.specs.Makings.{gives}
-use Rattle.sml_expansion.specs.Bare.{fn_node, if_node, case_node, apply_node}
-use Rattle.sml_expansion.specs.Expressions.{expressions, rules, elsewhere}
+use Rattle.sml_expansion.specs.Makings.{gives, ◌>>=◌}
+use Rattle.sml_expansion.specs.Bare.{tuple_node, fn_node, if_node, case_node, apply_node}
+use Rattle.sml_expansion.specs.Expressions.{expressions, rules, elsewhere, function_part, identifier, both}
 use Rattle.sml_expansion.proofs.Shapes.{as_one, as_two, as_three}
 use Rattle.sml_derive.specs.declared.pairs.Pair.TheVariants as pair
 use Rattle.sml_derive.specs.declared.pairs.Matched.TheVariants as matched
@@ -16,7 +16,9 @@ use Rattle.sml_derive.specs.Pairs.{pair_of, match_of, pair_node, match_node, bet
 use Rattle.sml_derive.specs.Steps.{Writes, scope, position, behind}
 use Rattle.sml_derive.proofs.Schemas.{Is, is, one_part, two_parts, three_parts, unmarked, ok_so}
 use Rattle.sml_derive.proofs.Spines.{writes_both, one_less, one_less_counted, begun, begun_counted}
-use Rattle.sml_derive.proofs.FormLemmas.{as_list, pair_spells, pair_single, match_spells, match_single, if_spells, tuple_writes, rule_writes, no_rules, plain_pair, applied_pair}
+use Rattle.sml_derive.proofs.FormLemmas.{as_list, pair_spells, pair_single, match_spells, match_single, if_spells, tuple_writes, rule_writes, no_rules, plain_pair, applied_pair, found, not_found, record_writes, typed_writes}
+use Rattle.sml_derive.specs.Functions.{match_in}
+use Rattle.sml_derive.proofs.Atoms.{identifier_writes}
 use Rattle.sml_derive.proofs.expressions.+phrases.Goals as goal
 
 pub beside-returns : goal.beside-returns
@@ -57,3 +59,48 @@ expression-returns-in_ok-close_fn-in-Fn t c = λ u k. as_one c.args.parsed.now c
 
 pub expression-returns-in_ok-close_case-in-If : goal.expression-returns-in_ok-close_case-in-If
 expression-returns-in_ok-close_case-in-If t c = λ u k. as_three c.args.parsed.now c.args.at u node.If k (sym c.node.ensures ∙ c.in-If.is) refl (λ u. Writes (expressions (position c.args.stands) (scope c.args.parsed.now c.args.walk.now) u) c.args.walk.now c.close_case.new.walk 1) (λ p a b d h. let parts = c.three-condition.ensures.parts _ p a b d h in subst (λ q. Writes (expressions (position c.args.stands) (scope c.args.parsed.now c.args.walk.now) (three node.If q a b d)) c.args.walk.now c.close_case.new.walk 1) (c.place-place-in-If.ensures _ h) (three_parts (λ b. expressions elsewhere (scope_of c.args.parsed.now.names b) a) (λ e. expressions elsewhere (scope_of c.args.parsed.now.names e) b) (λ b. expressions elsewhere (scope_of c.args.parsed.now.names b) d) (if_node c.place-place-in-If.result) (Open ∷ []) _ _ (Close (bare.Case 0 []) c.place-place-in-If.result ∷ []) c.args.walk.now _ _ _ _ _ _ _ (if_spells c.place-place-in-If.result) (λ x y z. refl) (is c.in_ok-open-in-If.ensures) (is (c.in_ok-expression-in-If.ensures a parts.0).walk) (is c.in_ok-if_true-in-If.ensures) (is (c.in_ok-expression-in-If-2.ensures b parts.1).walk) (is c.in_ok-if_false-in-If.ensures) (is (c.in_ok-expression-in-If-3.ensures d parts.2).walk) (is c.in_ok-close_case-in-If.ensures)))
+
+pub expression-returns-in_ok-close_case-in-Some : goal.expression-returns-in_ok-close_case-in-Some
+expression-returns-in_ok-close_case-in-Some t c = λ u k. as_two c.args.parsed.now c.args.at u node.Apply k (sym c.node.ensures ∙ c.in-Apply.is) refl (λ u. Writes (expressions (position c.args.stands) (scope c.args.parsed.now c.args.walk.now) u) c.args.walk.now c.close_case-in-Some.new.walk 1) (λ p f a h. let parts = c.two-function.ensures.parts _ p f a h in let m = found c.args.parsed.now (match_in f) c.in-Some.body (c.in-Some.ensures.is f parts.0) in subst (λ q. Writes (expressions (position c.args.stands) (scope c.args.parsed.now c.args.walk.now) (two node.Apply q f a)) c.args.walk.now c.close_case-in-Some.new.walk 1) (c.place-place-in-Some.ensures _ h) (subst (λ g. Writes g c.args.walk.now c.close_case-in-Some.new.walk 1) (sym (applied_pair (position c.args.stands) (scope c.args.parsed.now c.args.walk.now) c.place-place-in-Some.result f a m.tree m.is)) (two_parts (λ d. expressions elsewhere (scope_of c.args.parsed.now.names d) a) (λ d. rules (scope_of c.args.parsed.now.names d) m.tree) (match_node matched.Case c.place-place-in-Some.result) (Open ∷ []) [] (behind_match matched.Case c.place-place-in-Some.result) c.args.walk.now _ _ _ _ _ (match_spells matched.Case c.place-place-in-Some.result) (match_single matched.Case c.place-place-in-Some.result) (is c.in_ok-open-in-Some.ensures) (is (c.in_ok-expression-in-Some.ensures a parts.1).walk) (is (unmarked _)) (is (c.in_ok-rules-in-Some.ensures m.tree m.stands)) (is c.in_ok-close_case-in-Some.ensures))))
+
+pub expression-returns-in-None : goal.expression-returns-in-None
+expression-returns-in-None t c = ok_so c.pair-in-None.result _ _ (λ n w u k. as_two c.args.parsed.now c.args.at u node.Apply k (sym c.node.ensures ∙ c.in-Apply.is) refl (λ u. Writes (pair_of pair.Apply (scope c.args.parsed.now c.args.walk.now) u) c.args.walk.now c.pair-in-None.new.walk n → Writes (expressions (position c.args.stands) (scope c.args.parsed.now c.args.walk.now) u) c.args.walk.now c.pair-in-None.new.walk n) (λ p f a h x. let parts = c.two-function.ensures.parts _ p f a h in subst (λ g. Writes g c.args.walk.now c.pair-in-None.new.walk n) (sym (plain_pair (position c.args.stands) (scope c.args.parsed.now c.args.walk.now) p f a (not_found c.args.parsed.now (match_in f) (c.in-None.ensures.is f parts.0)))) x) (w u k)) c.pair-in-None.ensures
+
+pub expression-returns-in_ok-close-in-InfixExp : goal.expression-returns-in_ok-close-in-InfixExp
+expression-returns-in_ok-close-in-InfixExp t c = λ u k. as_three c.args.parsed.now c.args.at u node.InfixExp k (sym c.node.ensures ∙ c.in-InfixExp.is) refl (λ u. Writes (expressions (position c.args.stands) (scope c.args.parsed.now c.args.walk.now) u) c.args.walk.now c.close-in-InfixExp.new.self 1) (λ p a v b h. let parts = c.three-left.ensures.parts _ p a v b h in subst (λ q. Writes (expressions (position c.args.stands) (scope c.args.parsed.now c.args.walk.now) (three node.InfixExp q a v b)) c.args.walk.now c.close-in-InfixExp.new.self 1) (c.place-place-in-InfixExp.ensures _ h) (two_parts (λ d. identifier function_part (scope_of c.args.parsed.now.names d) (place_at v) (ident c.args.parsed.now.names v)) (λ d. ◌>>=◌ ((λ d. both (expressions elsewhere (scope_of c.args.parsed.now.names d) a) (expressions elsewhere (scope_of c.args.parsed.now.names d) b)) d) (λ x. gives (tuple_node c.place-place-in-InfixExp.result x))) (pair_node pair.Apply c.place-place-in-InfixExp.result) (Open ∷ []) [] (behind_pair pair.Apply c.place-place-in-InfixExp.result) c.args.walk.now c.open-in-InfixExp.new.self _ _ _ _ (pair_spells pair.Apply c.place-place-in-InfixExp.result) (pair_single pair.Apply c.place-place-in-InfixExp.result) (is c.in_ok-open-in-InfixExp.ensures) (is (identifier_writes function_part (scope c.args.parsed.now c.open-in-InfixExp.new.self) c.open-in-InfixExp.new.self c.identifier.new.walk _ (place_at v) _ (ident c.args.parsed.now.names v) (c.place.ensures v parts.1) (c.ident.ensures v parts.1) c.in_ok-identifier-in-InfixExp.ensures).walk) (is (unmarked _)) (is (tuple_writes (λ d. both (expressions elsewhere (scope_of c.args.parsed.now.names d) a) (expressions elsewhere (scope_of c.args.parsed.now.names d) b)) c.place-place-in-InfixExp.result c.identifier.new.walk c.open-in-InfixExp-2.new.self _ c.close_tuple.new.walk _ (is c.in_ok-open-in-InfixExp-2.ensures) (writes_both (expressions elsewhere (scope c.args.parsed.now c.open-in-InfixExp-2.new.self) a) (λ d. expressions elsewhere (scope_of c.args.parsed.now.names d) b) c.open-in-InfixExp-2.new.self _ _ _ _ _ (c.in_ok-trees-in-InfixExp.ensures a parts.0) (c.in_ok-more-in-InfixExp.ensures b parts.2) c.in_ok-all-in-InfixExp.ensures) (is c.in_ok-close_tuple-in-InfixExp.ensures)).walk) (is c.in_ok-close-in-InfixExp.ensures)))
+
+pub expression-returns-in_ok-close_tuple-in-Tuple : goal.expression-returns-in_ok-close_tuple-in-Tuple
+expression-returns-in_ok-close_tuple-in-Tuple t c = λ u k. as_two c.args.parsed.now c.args.at u node.Tuple k (sym c.node.ensures ∙ c.in-Tuple.is) refl (λ u. Writes (expressions (position c.args.stands) (scope c.args.parsed.now c.args.walk.now) u) c.args.walk.now c.close_tuple-in-Tuple.new.walk 1) (λ p a b h. let parts = c.two-first.ensures.parts _ p a b h in subst (λ q. Writes (expressions (position c.args.stands) (scope c.args.parsed.now c.args.walk.now) (two node.Tuple q a b)) c.args.walk.now c.close_tuple-in-Tuple.new.walk 1) (c.place-place-in-Tuple.ensures _ h) (tuple_writes (λ d. both (expressions elsewhere (scope_of c.args.parsed.now.names d) a) (expressions elsewhere (scope_of c.args.parsed.now.names d) b)) c.place-place-in-Tuple.result c.args.walk.now c.open-in-Tuple.new.self _ c.close_tuple-in-Tuple.new.walk _ (is c.in_ok-open-in-Tuple.ensures) (writes_both (expressions elsewhere (scope c.args.parsed.now c.open-in-Tuple.new.self) a) (λ d. expressions elsewhere (scope_of c.args.parsed.now.names d) b) c.open-in-Tuple.new.self _ _ _ _ _ (c.in_ok-trees-in-Tuple.ensures a parts.0) (c.in_ok-more-in-Tuple.ensures b parts.1) c.in_ok-all-in-Tuple.ensures) (is c.in_ok-close_tuple-in-Tuple.ensures)))
+
+pub expression-returns-in_ok-close_record-in-Record : goal.expression-returns-in_ok-close_record-in-Record
+expression-returns-in_ok-close_record-in-Record t c = λ u k. as_one c.args.parsed.now c.args.at u node.Record k (sym c.node.ensures ∙ c.in-Record.is) refl (λ u. Writes (expressions (position c.args.stands) (scope c.args.parsed.now c.args.walk.now) u) c.args.walk.now c.close_record.new.walk 1) (λ p a h. let part = c.one-rows.ensures.part _ p a h in subst (λ q. Writes (expressions (position c.args.stands) (scope c.args.parsed.now c.args.walk.now) (one node.Record q a)) c.args.walk.now c.close_record.new.walk 1) (c.place-place-in-Record.ensures _ h) (record_writes c.args.parsed.now (position c.args.stands) c.place-place-in-Record.result a c.args.walk.now c.in_ok-labs-in-Record.labs.items c.deref.result.now c.labels_once.new.made _ _ _ (is (c.in_ok-labs-in-Record.ensures a part)) (is c.deref.ensures.value) (is (sym (ap (λ r. r.1) c.in_ok-labels_once-in-Record.ensures))) (is c.in_ok-open-in-Record.ensures) (is (c.in_ok-items-in-Record.ensures a part).walk) (is c.in_ok-close_record-in-Record.ensures)))
+
+pub expression-returns-in_ok-close-in-Typed : goal.expression-returns-in_ok-close-in-Typed
+expression-returns-in_ok-close-in-Typed t c = λ u k. as_two c.args.parsed.now c.args.at u node.Typed k (sym c.node.ensures ∙ c.in-Typed.is) refl (λ u. Writes (expressions (position c.args.stands) (scope c.args.parsed.now c.args.walk.now) u) c.args.walk.now c.close-in-Typed.new.self 1) (λ p a v h. let parts = c.two-inner-in-Typed.ensures.parts _ p a v h in subst (λ q. Writes (expressions (position c.args.stands) (scope c.args.parsed.now c.args.walk.now) (two node.Typed q a v)) c.args.walk.now c.close-in-Typed.new.self 1) (c.place-place-in-Typed.ensures _ h) (typed_writes c.args.parsed.now (position c.args.stands) c.place-place-in-Typed.result a v c.args.walk.now _ _ _ _ _ (is (c.in_ok-ty-in-Typed.ensures.walk v parts.1)) (is (c.in_ok-ty-in-Typed.ensures.number v parts.1)) (is c.in_ok-open-in-Typed.ensures) (is (c.in_ok-expression-in-Typed.ensures a parts.0).walk) (is c.in_ok-close-in-Typed.ensures)))
+
+pub items-loop-first-preserved : goal.items-loop-first-preserved
+items-loop-first-preserved t c = ?
+
+pub items-returns : goal.items-returns
+items-returns t c = ?
+
+pub matched-returns : goal.matched-returns
+matched-returns t c = ?
+
+pub pair-returns : goal.pair-returns
+pair-returns t c = ?
+
+pub rule-returns-in_ok-expression-in-Rule : goal.rule-returns-in_ok-expression-in-Rule
+rule-returns-in_ok-expression-in-Rule t c = ?
+
+pub rule-returns-in_ok-rule-in-MoreRules : goal.rule-returns-in_ok-rule-in-MoreRules
+rule-returns-in_ok-rule-in-MoreRules t c = ?
+
+pub rule-returns-in_default : goal.rule-returns-in_default
+rule-returns-in_default t c = ?
+
+pub rules-loop-first-preserved : goal.rules-loop-first-preserved
+rules-loop-first-preserved t c = ?
+
+pub rules-returns : goal.rules-returns
+rules-returns t c = ?
