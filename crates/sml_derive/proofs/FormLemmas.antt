@@ -39,7 +39,7 @@ use Rattle.sml_derive.specs.Steps.{scope, made, marked, behind, writes_pattern, 
 use Rattle.sml_derive.proofs.Schemas.{Is, same, is, marks_same, one_part, two_parts, unmarked}
 
 -- lists
-list_parts : (n : TreeNode) → is_list n ≡ true → parts_of n ≡ 2
+pub list_parts : (n : TreeNode) → is_list n ≡ true → parts_of n ≡ 2
 list_parts node.MoreItems e = refl
 list_parts node.MoreRows e = refl
 list_parts node.MoreSeq e = refl
@@ -96,17 +96,14 @@ rule_writes s q a w0 n _ _ _ _ _ same same same same e same =
     ap (λ b. record { made = y.1; bindings = record { values = b; types = w0.bindings.types; tyvars = w0.bindings.tyvars }; marks = (w0.marks ++ marks x.0.forest) ++ marks y.0 }) (oldest_behind n (env_of x.0.vars).values w0.bindings.values e)
     ∙ marks_same (record w0 { made = y.1 }) _ _ (append_assoc w0.marks (marks x.0.forest) (marks y.0) ∙ ap (λ l. w0.marks ++ l) (sym (marks_beside x.0.forest y.0)))
 
-rule_nothing : (n : TreeNode) (s : Scope) (p : Place) (a b : Term) → (n ≡ node.Rule → ⊥) → (n ≡ node.MoreRules → ⊥) → rules s (two n p a b) ≡ gives none
-rule_nothing node.Rule s p a b e f = absurd (e refl)
-rule_nothing node.MoreRules s p a b e f = absurd (f refl)
-rule_nothing _ s p a b e f = refl
-
-pub no_rules : (s : Scope) (t : Term) (n : TreeNode) → ((p : Place) (a b : Term) → t ≡ two node.Rule p a b → ⊥) → ((p : Place) (a b : Term) → t ≡ two node.MoreRules p a b → ⊥) → rules s t ≡ gives none
-no_rules s (leaf n p) m e f = refl
-no_rules s (one n p a) m e f = refl
-no_rules s (two n p a b) m e f = rule_nothing n s p a b (λ x. e p a b (ap (λ o. two o p a b) x)) (λ x. f p a b (ap (λ o. two o p a b) x))
-no_rules s (three n p a b c) m e f = refl
-no_rules s (four n p a b c d) m e f = refl
+pub no_rules : (s : Scope) (t : Term) (n : TreeNode) → n ≡ node_of t → (n ≡ node.Rule → ⊥) → (n ≡ node.MoreRules → ⊥) → gives none ≡ rules s t
+no_rules s (leaf m p) n e f g = refl
+no_rules s (one m p a) n e f g = refl
+no_rules s (two node.Rule p a b) n e f g = absurd (f e)
+no_rules s (two node.MoreRules p a b) n e f g = absurd (g e)
+no_rules s (two _ p a b) n e f g = refl
+no_rules s (three m p a b c) n e f g = refl
+no_rules s (four m p a b c d) n e f g = refl
 
 -- functions that are applied
 pub is_plain : (t : Term) → match_in t ≡ None → is_fn t ≡ false

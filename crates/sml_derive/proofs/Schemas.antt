@@ -1,12 +1,12 @@
 -- Expansions of phrases by their parts: what is written before, between and behind them.
 use Rattle.std.proofs.Common.{◌≡◌, ℕ, suc, ◌+◌, List, [], ◌∷◌, ◌++◌, refl, sym, ap, subst, ◌∙◌}
-use Rattle.std.specs.Prelude.{Result, Ok, Err, IfOk}
+use Rattle.std.specs.Prelude.{Result, Ok, Err, IfOk, OnOk}
 use Rattle.std.proofs.lemmas.List.{append_assoc, append-nil}
 use Rattle.sml_expansion.specs.declared.made.Made.{Made}
 use Rattle.sml_expansion.specs.declared.walk.Walk.{Walk}
 use Rattle.sml_expansion.specs.declared.mark.Mark.{Mark}
 use Rattle.sml_expansion.specs.declared.scope.Bindings.{Bindings}
-use Rattle.sml_expansion.specs.Forests.{Forest, count, ◌&◌}
+use Rattle.sml_expansion.specs.Forests.{Forest, none, count, ◌&◌}
 use Rattle.sml_expansion.specs.Marks.{marks}
 use Rattle.sml_expansion.specs.Makings.{Makes, gives, ◌>>=◌}
 use Rattle.sml_expansion.specs.Expressions.{both}
@@ -79,3 +79,13 @@ unmarked w = marks_same w _ _ (sym (append-nil w.marks))
 pub ok_so : {A E : Type 0} (r : Result A E) (P Q : A → Type 0) → ((x : A) → P x → Q x) → IfOk r P → IfOk r Q
 ok_so (Ok x) P Q f h = f x h
 ok_so (Err e) P Q f h = tt
+
+pub on_so : {A E : Type 0} (r : Result A E) (P Q : Type 0) → (P → Q) → OnOk r P → OnOk r Q
+on_so (Ok x) P Q f h = f h
+on_so (Err e) P Q f h = tt
+
+pub walk_of : {f : Makes Forest} {a b : Walk} {n : ℕ} → Writes f a b n → b ≡ behind f a
+walk_of h = h.walk
+
+pub nothing_behind : (w : Walk) (f : Makes Forest) → gives none ≡ f → w ≡ behind f w
+nothing_behind w f e = unmarked w ∙ ap (λ g. behind g w) e

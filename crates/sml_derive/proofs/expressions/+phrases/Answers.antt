@@ -1,4 +1,5 @@
-use Rattle.std.proofs.Common.{◌≡◌, ◌+◌, ◌++◌, ℕ, List, [], ◌∷◌, refl, sym, ap, subst, ◌∙◌, rules as search_rules, arith}
+use Rattle.std.proofs.Common.{◌≡◌, ◌≤◌, ◌<◌, true, ◌+◌, ◌++◌, ℕ, List, [], ◌∷◌, refl, sym, ap, subst, ◌∙◌, rules as search_rules, arith}
+use Rattle.sml_tree.specs.Parts.{parts_of}
 use Rattle.sml_tree.specs.declared.tree_node.TreeNode.TheVariants as node
 use Rattle.sml_tree.specs.declared.bare.Node.TheVariants as bare
 use Rattle.sml_expansion.specs.declared.mark.Mark.TheVariants.{Open, Close}
@@ -9,14 +10,14 @@ use Rattle.sml_expansion.specs.Forests.{grown, none}
 use Rattle.sml_expansion.specs.Makings.{gives, ◌>>=◌}
 use Rattle.sml_expansion.specs.Bare.{tuple_node, fn_node, if_node, case_node, apply_node}
 use Rattle.sml_expansion.specs.Expressions.{expressions, rules, elsewhere, function_part, identifier, both}
-use Rattle.sml_expansion.proofs.Shapes.{as_one, as_two, as_three}
+use Rattle.sml_expansion.proofs.Shapes.{node_is, as_one, as_two, as_three}
 use Rattle.sml_derive.specs.declared.pairs.Pair.TheVariants as pair
 use Rattle.sml_derive.specs.declared.pairs.Matched.TheVariants as matched
-use Rattle.sml_derive.specs.Pairs.{pair_of, match_of, pair_node, match_node, between, behind_pair, behind_match, first_of}
+use Rattle.sml_derive.specs.Pairs.{is_list, pair_of, match_of, pair_node, match_node, between, behind_pair, behind_match, first_of}
 use Rattle.sml_derive.specs.Steps.{Writes, scope, position, behind}
-use Rattle.sml_derive.proofs.Schemas.{Is, is, one_part, two_parts, three_parts, unmarked, ok_so}
-use Rattle.sml_derive.proofs.Spines.{writes_both, one_less, one_less_counted, begun, begun_counted}
-use Rattle.sml_derive.proofs.FormLemmas.{as_list, pair_spells, pair_single, match_spells, match_single, if_spells, tuple_writes, rule_writes, no_rules, plain_pair, applied_pair, found, not_found, record_writes, typed_writes}
+use Rattle.sml_derive.proofs.Schemas.{Is, is, on_so, walk_of, nothing_behind, one_part, two_parts, three_parts, unmarked, ok_so}
+use Rattle.sml_derive.proofs.Spines.{Left, LeftCounted, behind_both, writes_both, one_less, one_less_counted, begun, begun_counted}
+use Rattle.sml_derive.proofs.FormLemmas.{as_list, list_parts, pair_spells, pair_single, match_spells, match_single, if_spells, tuple_writes, rule_writes, no_rules, plain_pair, applied_pair, found, not_found, record_writes, typed_writes}
 use Rattle.sml_derive.specs.Functions.{match_in}
 use Rattle.sml_derive.proofs.Atoms.{identifier_writes}
 use Rattle.sml_derive.proofs.expressions.+phrases.Goals as goal
@@ -67,7 +68,7 @@ pub expression-returns-in-None : goal.expression-returns-in-None
 expression-returns-in-None t c = ok_so c.pair-in-None.result _ _ (λ n w u k. as_two c.args.parsed.now c.args.at u node.Apply k (sym c.node.ensures ∙ c.in-Apply.is) refl (λ u. Writes (pair_of pair.Apply (scope c.args.parsed.now c.args.walk.now) u) c.args.walk.now c.pair-in-None.new.walk n → Writes (expressions (position c.args.stands) (scope c.args.parsed.now c.args.walk.now) u) c.args.walk.now c.pair-in-None.new.walk n) (λ p f a h x. let parts = c.two-function.ensures.parts _ p f a h in subst (λ g. Writes g c.args.walk.now c.pair-in-None.new.walk n) (sym (plain_pair (position c.args.stands) (scope c.args.parsed.now c.args.walk.now) p f a (not_found c.args.parsed.now (match_in f) (c.in-None.ensures.is f parts.0)))) x) (w u k)) c.pair-in-None.ensures
 
 pub expression-returns-in_ok-close-in-InfixExp : goal.expression-returns-in_ok-close-in-InfixExp
-expression-returns-in_ok-close-in-InfixExp t c = λ u k. as_three c.args.parsed.now c.args.at u node.InfixExp k (sym c.node.ensures ∙ c.in-InfixExp.is) refl (λ u. Writes (expressions (position c.args.stands) (scope c.args.parsed.now c.args.walk.now) u) c.args.walk.now c.close-in-InfixExp.new.self 1) (λ p a v b h. let parts = c.three-left.ensures.parts _ p a v b h in subst (λ q. Writes (expressions (position c.args.stands) (scope c.args.parsed.now c.args.walk.now) (three node.InfixExp q a v b)) c.args.walk.now c.close-in-InfixExp.new.self 1) (c.place-place-in-InfixExp.ensures _ h) (two_parts (λ d. identifier function_part (scope_of c.args.parsed.now.names d) (place_at v) (ident c.args.parsed.now.names v)) (λ d. ◌>>=◌ ((λ d. both (expressions elsewhere (scope_of c.args.parsed.now.names d) a) (expressions elsewhere (scope_of c.args.parsed.now.names d) b)) d) (λ x. gives (tuple_node c.place-place-in-InfixExp.result x))) (pair_node pair.Apply c.place-place-in-InfixExp.result) (Open ∷ []) [] (behind_pair pair.Apply c.place-place-in-InfixExp.result) c.args.walk.now c.open-in-InfixExp.new.self _ _ _ _ (pair_spells pair.Apply c.place-place-in-InfixExp.result) (pair_single pair.Apply c.place-place-in-InfixExp.result) (is c.in_ok-open-in-InfixExp.ensures) (is (identifier_writes function_part (scope c.args.parsed.now c.open-in-InfixExp.new.self) c.open-in-InfixExp.new.self c.identifier.new.walk _ (place_at v) _ (ident c.args.parsed.now.names v) (c.place.ensures v parts.1) (c.ident.ensures v parts.1) c.in_ok-identifier-in-InfixExp.ensures).walk) (is (unmarked _)) (is (tuple_writes (λ d. both (expressions elsewhere (scope_of c.args.parsed.now.names d) a) (expressions elsewhere (scope_of c.args.parsed.now.names d) b)) c.place-place-in-InfixExp.result c.identifier.new.walk c.open-in-InfixExp-2.new.self _ c.close_tuple.new.walk _ (is c.in_ok-open-in-InfixExp-2.ensures) (writes_both (expressions elsewhere (scope c.args.parsed.now c.open-in-InfixExp-2.new.self) a) (λ d. expressions elsewhere (scope_of c.args.parsed.now.names d) b) c.open-in-InfixExp-2.new.self _ _ _ _ _ (c.in_ok-trees-in-InfixExp.ensures a parts.0) (c.in_ok-more-in-InfixExp.ensures b parts.2) c.in_ok-all-in-InfixExp.ensures) (is c.in_ok-close_tuple-in-InfixExp.ensures)).walk) (is c.in_ok-close-in-InfixExp.ensures)))
+expression-returns-in_ok-close-in-InfixExp t c = λ u k. as_three c.args.parsed.now c.args.at u node.InfixExp k (sym c.node.ensures ∙ c.in-InfixExp.is) refl (λ u. Writes (expressions (position c.args.stands) (scope c.args.parsed.now c.args.walk.now) u) c.args.walk.now c.close-in-InfixExp.new.self 1) (λ p a v b h. let parts = c.three-left.ensures.parts _ p a v b h in subst (λ q. Writes (expressions (position c.args.stands) (scope c.args.parsed.now c.args.walk.now) (three node.InfixExp q a v b)) c.args.walk.now c.close-in-InfixExp.new.self 1) (c.place-place-in-InfixExp.ensures _ h) (two_parts (λ d. identifier function_part (scope_of c.args.parsed.now.names d) (place_at v) (ident c.args.parsed.now.names v)) (λ d. ◌>>=◌ (both (expressions elsewhere (scope_of c.args.parsed.now.names d) a) (expressions elsewhere (scope_of c.args.parsed.now.names d) b)) (λ x. gives (tuple_node c.place-place-in-InfixExp.result x))) (pair_node pair.Apply c.place-place-in-InfixExp.result) (Open ∷ []) [] (behind_pair pair.Apply c.place-place-in-InfixExp.result) c.args.walk.now c.open-in-InfixExp.new.self _ _ _ _ (pair_spells pair.Apply c.place-place-in-InfixExp.result) (pair_single pair.Apply c.place-place-in-InfixExp.result) (is c.in_ok-open-in-InfixExp.ensures) (is (walk_of (identifier_writes function_part (scope c.args.parsed.now c.open-in-InfixExp.new.self) c.open-in-InfixExp.new.self c.identifier.new.walk _ (place_at v) _ (ident c.args.parsed.now.names v) (c.place.ensures v parts.1) (c.ident.ensures v parts.1) c.in_ok-identifier-in-InfixExp.ensures))) (is (unmarked _)) (is (walk_of (tuple_writes (λ d. both (expressions elsewhere (scope_of c.args.parsed.now.names d) a) (expressions elsewhere (scope_of c.args.parsed.now.names d) b)) c.place-place-in-InfixExp.result c.identifier.new.walk c.open-in-InfixExp-2.new.self _ c.close_tuple.new.walk _ (is c.in_ok-open-in-InfixExp-2.ensures) (writes_both (expressions elsewhere (scope c.args.parsed.now c.open-in-InfixExp-2.new.self) a) (λ d. expressions elsewhere (scope_of c.args.parsed.now.names d) b) c.open-in-InfixExp-2.new.self _ _ _ _ _ (c.in_ok-trees-in-InfixExp.ensures a parts.0) (c.in_ok-more-in-InfixExp.ensures b parts.2) c.in_ok-all-in-InfixExp.ensures) (is c.in_ok-close_tuple-in-InfixExp.ensures)))) (is c.in_ok-close-in-InfixExp.ensures)))
 
 pub expression-returns-in_ok-close_tuple-in-Tuple : goal.expression-returns-in_ok-close_tuple-in-Tuple
 expression-returns-in_ok-close_tuple-in-Tuple t c = λ u k. as_two c.args.parsed.now c.args.at u node.Tuple k (sym c.node.ensures ∙ c.in-Tuple.is) refl (λ u. Writes (expressions (position c.args.stands) (scope c.args.parsed.now c.args.walk.now) u) c.args.walk.now c.close_tuple-in-Tuple.new.walk 1) (λ p a b h. let parts = c.two-first.ensures.parts _ p a b h in subst (λ q. Writes (expressions (position c.args.stands) (scope c.args.parsed.now c.args.walk.now) (two node.Tuple q a b)) c.args.walk.now c.close_tuple-in-Tuple.new.walk 1) (c.place-place-in-Tuple.ensures _ h) (tuple_writes (λ d. both (expressions elsewhere (scope_of c.args.parsed.now.names d) a) (expressions elsewhere (scope_of c.args.parsed.now.names d) b)) c.place-place-in-Tuple.result c.args.walk.now c.open-in-Tuple.new.self _ c.close_tuple-in-Tuple.new.walk _ (is c.in_ok-open-in-Tuple.ensures) (writes_both (expressions elsewhere (scope c.args.parsed.now c.open-in-Tuple.new.self) a) (λ d. expressions elsewhere (scope_of c.args.parsed.now.names d) b) c.open-in-Tuple.new.self _ _ _ _ _ (c.in_ok-trees-in-Tuple.ensures a parts.0) (c.in_ok-more-in-Tuple.ensures b parts.1) c.in_ok-all-in-Tuple.ensures) (is c.in_ok-close_tuple-in-Tuple.ensures)))
@@ -79,28 +80,28 @@ pub expression-returns-in_ok-close-in-Typed : goal.expression-returns-in_ok-clos
 expression-returns-in_ok-close-in-Typed t c = λ u k. as_two c.args.parsed.now c.args.at u node.Typed k (sym c.node.ensures ∙ c.in-Typed.is) refl (λ u. Writes (expressions (position c.args.stands) (scope c.args.parsed.now c.args.walk.now) u) c.args.walk.now c.close-in-Typed.new.self 1) (λ p a v h. let parts = c.two-inner-in-Typed.ensures.parts _ p a v h in subst (λ q. Writes (expressions (position c.args.stands) (scope c.args.parsed.now c.args.walk.now) (two node.Typed q a v)) c.args.walk.now c.close-in-Typed.new.self 1) (c.place-place-in-Typed.ensures _ h) (typed_writes c.args.parsed.now (position c.args.stands) c.place-place-in-Typed.result a v c.args.walk.now _ _ _ _ _ (is (c.in_ok-ty-in-Typed.ensures.walk v parts.1)) (is (c.in_ok-ty-in-Typed.ensures.number v parts.1)) (is c.in_ok-open-in-Typed.ensures) (is (c.in_ok-expression-in-Typed.ensures a parts.0).walk) (is c.in_ok-close-in-Typed.ensures)))
 
 pub items-loop-first-preserved : goal.items-loop-first-preserved
-items-loop-first-preserved t c = ?
+items-loop-first-preserved t c = let e : is_list (node_at c.args.parsed.now c.loop-first.next) ≡ true = ap is_list (sym c.node.ensures) ∙ sym c.is_list.ensures ∙ c.loop-first-test.true in let z : (c.two-first.result.0 < c.loop-first.next) × (c.two-first.result.1 < c.loop-first.next) = c.two-first.ensures.below (list_parts (node_at c.args.parsed.now c.loop-first.next) e) in record { left = λ u k. let l = c.loop-first.invariant.left u k in as_list c.args.parsed.now c.loop-first.next l.term l.stands e (λ r. l.term ≡ r → LeftCounted c.args.parsed.now (λ d r. expressions elsewhere (scope_of c.args.parsed.now.names d) r) u c.args.walk.now c.expression.new.walk c.two-first.result.1 c.in_ok-trees.trees) (λ n p a b h split same. let parts = c.two-first.ensures.parts n p a b h in one_less_counted c.args.parsed.now (λ d r. expressions elsewhere (scope_of c.args.parsed.now.names d) r) u a b c.args.walk.now c.loop-first.walk c.expression.new.walk c.loop-first.next c.two-first.result.1 c.loop-first.trees c.in_ok-more.more c.in_ok-trees.trees l parts.1 (ap (λ (r : Term). expressions elsewhere (scope c.args.parsed.now c.loop-first.walk) r) same ∙ split (scope c.args.parsed.now c.loop-first.walk)) (c.in_ok-more.ensures a parts.0) c.in_ok-trees.ensures) refl; below = omega (arith, z.1, c.loop-first.invariant.below) }
 
 pub items-returns : goal.items-returns
-items-returns t c = ?
+items-returns t c = ok_so c.add-2.result _ _ (λ n e u k. let l = c.loop-first.invariant.left u k in let r : Writes (expressions elsewhere (scope c.args.parsed.now c.args.walk.now) u) c.args.walk.now c.expression-2.new.walk (c.loop-first.trees + c.in_ok-more-2.more) = l.goes c.expression-2.new.walk c.in_ok-more-2.more (c.in_ok-more-2.ensures l.term l.stands) in record { walk = r.walk; written = e ∙ r.written }) c.add-2.ensures
 
 pub matched-returns : goal.matched-returns
-matched-returns t c = ?
+matched-returns t c = λ u k. as_two c.args.parsed.now c.args.at u (node_at c.args.parsed.now c.args.at) k refl c.requires (λ u. Writes (match_of c.args.form (scope c.args.parsed.now c.args.walk.now) u) c.args.walk.now c.close_match.new.walk 1) (λ p a b h. let parts = c.two-first.ensures.parts _ p a b h in subst (λ q. Writes (match_of c.args.form (scope c.args.parsed.now c.args.walk.now) (two (node_at c.args.parsed.now c.args.at) q a b)) c.args.walk.now c.close_match.new.walk 1) (c.place-place.ensures _ h) (two_parts (λ d. expressions elsewhere (scope_of c.args.parsed.now.names d) a) (λ d. rules (scope_of c.args.parsed.now.names d) b) (match_node c.args.form c.place-place.result) (Open ∷ []) [] (behind_match c.args.form c.place-place.result) c.args.walk.now _ _ _ _ _ (match_spells c.args.form c.place-place.result) (match_single c.args.form c.place-place.result) (is c.in_ok-open.ensures) (is (c.in_ok-expression.ensures a parts.0).walk) (is (unmarked _)) (is (c.in_ok-rules.ensures b parts.1)) (is c.in_ok-close_match.ensures)))
 
 pub pair-returns : goal.pair-returns
-pair-returns t c = ?
+pair-returns t c = λ u k. as_two c.args.parsed.now c.args.at u (node_at c.args.parsed.now c.args.at) k refl c.requires (λ u. Writes (pair_of c.args.form (scope c.args.parsed.now c.args.walk.now) u) c.args.walk.now c.close_pair.new.walk 1) (λ p a b h. let parts = c.two-first.ensures.parts _ p a b h in subst (λ q. Writes (pair_of c.args.form (scope c.args.parsed.now c.args.walk.now) (two (node_at c.args.parsed.now c.args.at) q a b)) c.args.walk.now c.close_pair.new.walk 1) (c.place-place.ensures _ h) (two_parts (λ d. expressions (position (first_of c.args.form)) (scope_of c.args.parsed.now.names d) a) (λ d. expressions elsewhere (scope_of c.args.parsed.now.names d) b) (pair_node c.args.form c.place-place.result) (Open ∷ []) (between c.args.form c.place-place.result) (behind_pair c.args.form c.place-place.result) c.args.walk.now c.open.new.self c.expression.new.walk _ _ _ (pair_spells c.args.form c.place-place.result) (pair_single c.args.form c.place-place.result) (is c.in_ok-open.ensures) (is ((c.in_ok-expression.ensures a parts.0).walk ∙ ap (λ f. behind (expressions (position f) (scope c.args.parsed.now c.open.new.self) a) c.open.new.self) c.first_of.ensures)) (is c.in_ok-between.ensures) (is (c.in_ok-expression-2.ensures b parts.1).walk) (is c.in_ok-close_pair.ensures)))
 
 pub rule-returns-in_ok-expression-in-Rule : goal.rule-returns-in_ok-expression-in-Rule
-rule-returns-in_ok-expression-in-Rule t c = ?
+rule-returns-in_ok-expression-in-Rule t c = λ u k. as_two c.args.parsed.now c.args.at u node.Rule k (sym c.node.ensures ∙ c.in-Rule.is) refl (λ u. c.unsee.new.walk ≡ behind (rules (scope c.args.parsed.now c.args.walk.now) u) c.args.walk.now) (λ p q a h. let parts = c.two-pattern.ensures.parts _ p q a h in rule_writes c.args.parsed.now q a c.args.walk.now c.len-around.result _ _ _ _ c.deref.result.now (is (c.in_ok-vars-in-Rule.ensures.walk q parts.0)) (is (c.deref.ensures.value ∙ c.in_ok-vars-in-Rule.ensures.vars q parts.0)) (is c.in_ok-see-in-Rule.ensures) (is (c.in_ok-expression-in-Rule.ensures a parts.1).walk) (sym c.len-around.ensures) (is c.unsee.ensures))
 
 pub rule-returns-in_ok-rule-in-MoreRules : goal.rule-returns-in_ok-rule-in-MoreRules
-rule-returns-in_ok-rule-in-MoreRules t c = ?
+rule-returns-in_ok-rule-in-MoreRules t c = on_so c.rules.result _ _ (λ w u k. as_two c.args.parsed.now c.args.at u node.MoreRules k (sym c.node.ensures ∙ c.in-MoreRules.is) refl (λ u. c.rules.new.walk ≡ behind (rules (scope c.args.parsed.now c.args.walk.now) u) c.args.walk.now) (λ p a b h. let parts = c.two-first.ensures.parts _ p a b h in behind_both (rules (scope c.args.parsed.now c.args.walk.now) a) (λ d. rules (scope_of c.args.parsed.now.names d) b) c.args.walk.now _ _ (is (c.in_ok-rule-in-MoreRules.ensures a parts.0)) (is (w b parts.1)))) c.rules.ensures
 
 pub rule-returns-in_default : goal.rule-returns-in_default
-rule-returns-in_default t c = ?
+rule-returns-in_default t c = λ u k. nothing_behind c.args.walk.now (rules (scope c.args.parsed.now c.args.walk.now) u) (no_rules (scope c.args.parsed.now c.args.walk.now) u c.node.result (c.node.ensures ∙ node_is c.args.parsed.now c.args.at u k) c.in_default.not-Rule c.in_default.not-MoreRules)
 
 pub rules-loop-first-preserved : goal.rules-loop-first-preserved
-rules-loop-first-preserved t c = ?
+rules-loop-first-preserved t c = let e : node_at c.args.parsed.now c.loop-first.next ≡ node.MoreRules = (sym c.node.ensures ∙ c.in-MoreRules.is) in let z : (c.two-first.result.0 < c.loop-first.next) × (c.two-first.result.1 < c.loop-first.next) = c.two-first.ensures.below (ap parts_of e) in record { left = λ u k. let l = c.loop-first.invariant.left u k in as_two c.args.parsed.now c.loop-first.next l.term node.MoreRules l.stands e refl (λ r. l.term ≡ r → Left c.args.parsed.now (λ d r. rules (scope_of c.args.parsed.now.names d) r) u c.args.walk.now c.rule.new.walk c.two-first.result.1) (λ p a b h same. let parts = c.two-first.ensures.parts _ p a b h in one_less c.args.parsed.now (λ d r. rules (scope_of c.args.parsed.now.names d) r) u a b c.args.walk.now c.loop-first.walk c.rule.new.walk c.loop-first.next c.two-first.result.1 l parts.1 (ap (λ (r : Term). rules (scope c.args.parsed.now c.loop-first.walk) r) same) (c.in_ok-rule.ensures a parts.0)) refl; below = omega (arith, z.1, c.loop-first.invariant.below) }
 
 pub rules-returns : goal.rules-returns
-rules-returns t c = ?
+rules-returns t c = on_so c.rule-2.result _ _ (λ w u k. let l = c.loop-first.invariant.left u k in l.goes c.rule-2.new.walk (w l.term l.stands)) c.rule-2.ensures
