@@ -2,4 +2,6 @@ pub mod Atoms
 pub mod Counting
 pub mod FormLemmas
 pub mod Schemas
+pub mod Sequences
 pub mod Spines
+pub mod Times

@@ -25,7 +25,7 @@ pub marks_same : (w : Walk) (x y : List Mark) → x ≡ y → record w { marks =
 marks_same w x y e = ap (λ l. record w { marks = l }) e
 
 -- lists of marks one behind the other
-gathered : (l a b c : List Mark) → ((l ++ a) ++ b) ++ c ≡ l ++ (a ++ (b ++ c))
+pub gathered : (l a b c : List Mark) → ((l ++ a) ++ b) ++ c ≡ l ++ (a ++ (b ++ c))
 gathered l a b c = append_assoc (l ++ a) b c ∙ append_assoc l a (b ++ c)
 
 pub gathered_two : (l a x b y c : List Mark) → ((((l ++ a) ++ x) ++ b) ++ y) ++ c ≡ l ++ (a ++ (x ++ (b ++ (y ++ c))))

@@ -5,12 +5,13 @@ ghost use Rattle.sml_tree.specs.Parts.{parts_of};
 ghost use Rattle.sml_expansion.specs.Terms.{Term};
 ghost use Rattle.sml_expansion.specs.Sources.{IsAt, node_at};
 ghost use Rattle.sml_expansion.specs.Expressions.{expressions, rules, elsewhere};
+ghost use Rattle.sml_derive.specs.Forms.{sequence_of, list_of};
 ghost use Rattle.sml_derive.specs.Steps.{Writes, scope, position, behind};
 ghost use Rattle.sml_derive.specs.Pairs.{is_list, pair_of, match_of};
 
 use crate::forms;
 use crate::identifiers::{Stands, atom, identifier};
-use crate::number::add;
+use crate::number::{add, one_tree};
 use crate::pairs::{self, Matched, Pair};
 use crate::functions::fn_match;
 use crate::parts::{labels, see, type_of, unsee, whole_pattern};
@@ -18,7 +19,7 @@ use sml_expansion::once::labels_once;
 use sml_expansion::{Parsed, Walk};
 use sml_tree::TreeNode;
 use sml_tree::bare::Node;
-use smlc_base::NoMemory;
+use smlc_base::{NoMemory, Place};
 
 /// The expressions of a list, one for an expression alone.
 #[cycle(phrases)]
@@ -111,8 +112,21 @@ pub(crate) fn expression(parsed: &Parsed, walk: &mut Walk, stands: Stands, at: u
             forms::close_record(walk, place, labs)?;
             Ok(1)
         }
-        TreeNode::List => Err(NoMemory),
-        TreeNode::Sequence => Err(NoMemory),
+        TreeNode::List => {
+            let place = parsed.place(at);
+            list(parsed, walk, place, parsed.one(at))?;
+            Ok(1)
+        }
+        TreeNode::Sequence => {
+            let place = parsed.place(at);
+            let (first, rest) = parsed.two(at);
+            walk.open()?;
+            alone(parsed, walk, first)?;
+            forms::wild(walk, place)?;
+            sequence(parsed, walk, place, rest)?;
+            forms::close_case(walk, place)?;
+            Ok(1)
+        }
         TreeNode::Typed => {
             let place = parsed.place(at);
             let (inner, written) = parsed.two(at);
@@ -155,6 +169,54 @@ fn items(parsed: &Parsed, walk: &mut Walk, at: u32) -> Result<u32, NoMemory>
     }
     let more = expression(parsed, walk, Stands::Elsewhere, next)?;
     add(trees, more)
+}
+
+/// An expression, which is one tree.
+#[cycle(phrases)]
+fn alone(parsed: &Parsed, walk: &mut Walk, at: u32) -> Result<(), NoMemory>
+    ensures { OnOk result ((t : Term) → IsAt parsed.now at t → Writes (expressions elsewhere (scope parsed.now walk.old) t) walk.old walk.new 1) }
+{
+    let trees = expression(parsed, walk, Stands::Elsewhere, at)?;
+    one_tree(trees)
+}
+
+/// Expressions between semicolons, of which the last is kept.
+#[cycle(phrases)]
+fn sequence(parsed: &Parsed, walk: &mut Walk, place: Place, at: u32) -> Result<(), NoMemory>
+    ensures { OnOk result ((t : Term) → IsAt parsed.now at t → Writes (sequence_of place (expressions elsewhere (scope parsed.now walk.old) t)) walk.old walk.new 1) }
+{
+    let mut next = at;
+    let mut cases = 0;
+    while is_list(parsed.node(next)) {
+        let (first, rest) = parsed.two(next);
+        walk.open()?;
+        alone(parsed, walk, first)?;
+        forms::wild(walk, place)?;
+        cases = add(cases, 1)?;
+        next = rest;
+    }
+    alone(parsed, walk, next)?;
+    forms::close_cases(walk, place, cases)
+}
+
+/// The items of a list.
+#[cycle(phrases)]
+fn list(parsed: &Parsed, walk: &mut Walk, place: Place, at: u32) -> Result<(), NoMemory>
+    ensures { OnOk result ((t : Term) → IsAt parsed.now at t → Writes (list_of place (expressions elsewhere (scope parsed.now walk.old) t)) walk.old walk.new 1) }
+{
+    let mut next = at;
+    let mut conses = 0;
+    while is_list(parsed.node(next)) {
+        let (first, rest) = parsed.two(next);
+        forms::open_cons(walk, place)?;
+        alone(parsed, walk, first)?;
+        conses = add(conses, 1)?;
+        next = rest;
+    }
+    forms::open_cons(walk, place)?;
+    alone(parsed, walk, next)?;
+    forms::close_list(walk, place)?;
+    forms::close_conses(walk, place, conses)
 }
 
 /// Whether it is an expression and those behind it.

@@ -6,11 +6,11 @@ ghost use Rattle.sml_expansion.specs.declared.mark.Mark.TheVariants.{Open, Close
 ghost use Rattle.sml_expansion.specs.Forests.{grown, none};
 ghost use Rattle.sml_expansion.specs.Marks.{marks};
 ghost use Rattle.sml_expansion.specs.Makings.{gives};
-ghost use Rattle.sml_expansion.specs.Bare.{tuple_node, eta_node, con_true, con_false, con_pattern, con_node, fields};
+ghost use Rattle.sml_expansion.specs.Bare.{tuple_node, eta_node, con_true, con_false, con_pattern, con_nil, con_node, wild_node, fields};
 ghost use Rattle.sml_expansion.specs.Labels.{numbers};
 ghost use Rattle.sml_expansion.specs.Types.{labs_of};
 ghost use Rattle.sml_derive.specs.Steps.{behind, marked};
-ghost use Rattle.sml_derive.specs.Forms.{new_eta};
+ghost use Rattle.sml_derive.specs.Forms.{new_eta, times, case_end, cons_begins, cons_end};
 
 use sml_expansion::Walk;
 use sml_expansion::labels::{fields, tuple_fields};
@@ -130,4 +130,56 @@ pub(crate) fn close_record(walk: &mut Walk, place: Place, labs: Vec<(Lab, Place)
 {
     let row = fields(walk.allocator(), labs)?;
     walk.close(Node::Record(row), place)
+}
+
+/// The pattern `_`.
+pub(crate) fn wild(walk: &mut Walk, place: Place) -> Result<(), NoMemory>
+    ensures { OnOk result (walk.new ≡ marked (marks (wild_node place)) walk.old) }
+{
+    walk.leaf(Node::Wild, place)
+}
+
+/// The ends of so many `case`s.
+pub(crate) fn close_cases(walk: &mut Walk, place: Place, count: u32) -> Result<(), NoMemory>
+    ensures { OnOk result (walk.new ≡ marked (times count (case_end place)) walk.old) }
+{
+    for _ in 0..count {
+        close_case(walk, place)?;
+    }
+    Ok(())
+}
+
+/// The beginning of a list with an item.
+pub(crate) fn open_cons(walk: &mut Walk, place: Place) -> Result<(), NoMemory>
+    ensures { OnOk result (walk.new ≡ marked (cons_begins place) walk.old) }
+{
+    walk.open()?;
+    walk.leaf(Node::Constructor(CONS), place)?;
+    walk.open()
+}
+
+/// The end of a list with an item.
+pub(crate) fn close_cons(walk: &mut Walk, place: Place) -> Result<(), NoMemory>
+    ensures { OnOk result (walk.new ≡ marked (cons_end place) walk.old) }
+{
+    close_tuple(walk, place, 2)?;
+    walk.close(Node::App(0, 0), place)
+}
+
+/// The end of a list behind its last item.
+pub(crate) fn close_list(walk: &mut Walk, place: Place) -> Result<(), NoMemory>
+    ensures { OnOk result (walk.new ≡ marked (marks (con_node place con_nil) ++ cons_end place) walk.old) }
+{
+    walk.leaf(Node::Constructor(NIL), place)?;
+    close_cons(walk, place)
+}
+
+/// The ends of the lists around it.
+pub(crate) fn close_conses(walk: &mut Walk, place: Place, count: u32) -> Result<(), NoMemory>
+    ensures { OnOk result (walk.new ≡ marked (times count (cons_end place)) walk.old) }
+{
+    for _ in 0..count {
+        close_cons(walk, place)?;
+    }
+    Ok(())
 }

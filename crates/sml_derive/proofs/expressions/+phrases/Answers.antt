@@ -20,6 +20,10 @@ use Rattle.sml_derive.proofs.Spines.{Left, LeftCounted, behind_both, writes_both
 use Rattle.sml_derive.proofs.FormLemmas.{as_list, list_parts, pair_spells, pair_single, match_spells, match_single, if_spells, tuple_writes, rule_writes, no_rules, plain_pair, applied_pair, found, not_found, record_writes, typed_writes}
 use Rattle.sml_derive.specs.Functions.{match_in}
 use Rattle.sml_derive.proofs.Atoms.{identifier_writes}
+use Rattle.sml_expansion.specs.Marks.{marks}
+use Rattle.sml_expansion.specs.Bare.{sequence_node, list_node, wild_node}
+use Rattle.sml_derive.specs.Forms.{case_end, cons_begins, cons_end, sequence_of, list_of}
+use Rattle.sml_derive.proofs.Sequences.{LeftNest, nest_less, sequence_cons, list_cons, sequence_done, list_done}
 use Rattle.sml_derive.proofs.expressions.+phrases.Goals as goal
 
 pub beside-returns : goal.beside-returns
@@ -105,3 +109,24 @@ rules-loop-first-preserved t c = let e : node_at c.args.parsed.now c.loop-first.
 
 pub rules-returns : goal.rules-returns
 rules-returns t c = on_so c.rule-2.result _ _ (λ w u k. let l = c.loop-first.invariant.left u k in l.goes c.rule-2.new.walk (w l.term l.stands)) c.rule-2.ensures
+
+pub alone-returns : goal.alone-returns
+alone-returns t c = ?
+
+pub sequence-loop-first-preserved : goal.sequence-loop-first-preserved
+sequence-loop-first-preserved t c = let e : is_list (node_at c.args.parsed.now c.loop-first.next) ≡ true = ap is_list (sym c.node.ensures) ∙ sym c.is_list.ensures ∙ c.loop-first-test.true in let z : (c.two-first.result.0 < c.loop-first.next) × (c.two-first.result.1 < c.loop-first.next) = c.two-first.ensures.below (list_parts (node_at c.args.parsed.now c.loop-first.next) e) in record { left = λ u k. let l = c.loop-first.invariant.left u k in as_list c.args.parsed.now c.loop-first.next l.term l.stands e (λ r. l.term ≡ r → LeftNest c.args.parsed.now (sequence_node c.args.place) (case_end c.args.place) (λ d r. expressions elsewhere (scope_of c.args.parsed.now.names d) r) u c.args.walk.now c.wild.new.walk c.two-first.result.1 c.in_ok-cases.cases) (λ n p a b h split same. let parts = c.two-first.ensures.parts n p a b h in nest_less c.args.parsed.now (sequence_node c.args.place) (Open ∷ []) (marks (wild_node c.args.place)) (case_end c.args.place) (λ d r. expressions elsewhere (scope_of c.args.parsed.now.names d) r) u a b c.args.walk.now c.loop-first.walk c.open.new.self c.alone.new.walk c.wild.new.walk c.loop-first.next c.two-first.result.1 c.loop-first.cases c.in_ok-cases.cases l parts.1 (ap (λ (r : Term). expressions elsewhere (scope c.args.parsed.now c.loop-first.walk) r) same ∙ split (scope c.args.parsed.now c.loop-first.walk)) (c.in_ok-alone.ensures a parts.0) c.in_ok-cases.ensures (sequence_cons c.args.place) (is c.in_ok-open.ensures) (is c.in_ok-wild.ensures)) refl; below = omega (arith, z.1, c.loop-first.invariant.below) }
+
+pub sequence-returns : goal.sequence-returns
+sequence-returns t c = on_so c.close_cases.result _ _ (λ w u k. let l = c.loop-first.invariant.left u k in sequence_done c.args.parsed.now c.args.place (λ d r. expressions elsewhere (scope_of c.args.parsed.now.names d) r) u c.args.walk.now c.loop-first.walk c.alone-2.new.walk c.close_cases.new.walk c.loop-first.next c.loop-first.cases l (c.in_ok-alone-2.ensures l.term l.stands) w) c.close_cases.ensures
+
+pub list-loop-first-preserved : goal.list-loop-first-preserved
+list-loop-first-preserved t c = let e : is_list (node_at c.args.parsed.now c.loop-first.next) ≡ true = ap is_list (sym c.node.ensures) ∙ sym c.is_list.ensures ∙ c.loop-first-test.true in let z : (c.two-first.result.0 < c.loop-first.next) × (c.two-first.result.1 < c.loop-first.next) = c.two-first.ensures.below (list_parts (node_at c.args.parsed.now c.loop-first.next) e) in record { left = λ u k. let l = c.loop-first.invariant.left u k in as_list c.args.parsed.now c.loop-first.next l.term l.stands e (λ r. l.term ≡ r → LeftNest c.args.parsed.now (list_node c.args.place) (cons_end c.args.place) (λ d r. expressions elsewhere (scope_of c.args.parsed.now.names d) r) u c.args.walk.now c.alone.new.walk c.two-first.result.1 c.in_ok-conses.conses) (λ n p a b h split same. let parts = c.two-first.ensures.parts n p a b h in nest_less c.args.parsed.now (list_node c.args.place) (cons_begins c.args.place) [] (cons_end c.args.place) (λ d r. expressions elsewhere (scope_of c.args.parsed.now.names d) r) u a b c.args.walk.now c.loop-first.walk c.open_cons.new.walk c.alone.new.walk c.alone.new.walk c.loop-first.next c.two-first.result.1 c.loop-first.conses c.in_ok-conses.conses l parts.1 (ap (λ (r : Term). expressions elsewhere (scope c.args.parsed.now c.loop-first.walk) r) same ∙ split (scope c.args.parsed.now c.loop-first.walk)) (c.in_ok-alone.ensures a parts.0) c.in_ok-conses.ensures (λ x y h g. list_cons c.args.place x y h) (is c.in_ok-open_cons.ensures) (is (unmarked _))) refl; below = omega (arith, z.1, c.loop-first.invariant.below) }
+
+pub list-returns : goal.list-returns
+list-returns t c = on_so c.close_conses.result _ _ (λ w u k. let l = c.loop-first.invariant.left u k in list_done c.args.parsed.now c.args.place (λ d r. expressions elsewhere (scope_of c.args.parsed.now.names d) r) u c.args.walk.now c.loop-first.walk c.open_cons-2.new.walk c.alone-2.new.walk c.close_list.new.walk c.close_conses.new.walk c.loop-first.next c.loop-first.conses l (is c.in_ok-open_cons-2.ensures) (c.in_ok-alone-2.ensures l.term l.stands) (is c.in_ok-close_list.ensures) w) c.close_conses.ensures
+
+pub expression-returns-in_ok-list-in-List : goal.expression-returns-in_ok-list-in-List
+expression-returns-in_ok-list-in-List t c = ?
+
+pub expression-returns-in_ok-close_case-in-Sequence : goal.expression-returns-in_ok-close_case-in-Sequence
+expression-returns-in_ok-close_case-in-Sequence t c = ?
