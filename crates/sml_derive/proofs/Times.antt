@@ -7,7 +7,7 @@ use Rattle.sml_derive.specs.Forms.{times}
 use Rattle.sml_derive.specs.Steps.{marked}
 use Rattle.sml_derive.proofs.Schemas.{marks_same, unmarked}
 
-times_last : (n : ℕ) (ms : List Mark) → times n ms ++ ms ≡ times (suc n) ms
+pub times_last : (n : ℕ) (ms : List Mark) → times n ms ++ ms ≡ times (suc n) ms
 times_last zero ms = sym (append-nil ms)
 times_last (suc n) ms = append_assoc ms (times n ms) ms ∙ ap (λ l. ms ++ l) (times_last n ms)
 

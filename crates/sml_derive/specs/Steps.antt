@@ -1,15 +1,17 @@
 -- What a step of the expansion does to its state.
-use Rattle.std.specs.Prelude.{◌≡◌, ℕ, ◌++◌, List, Bool, true, false}
+use Rattle.std.specs.Prelude.{◌≡◌, ℕ, [], ◌∷◌, ◌++◌, List, Bool, true, false}
 use Rattle.sml_expansion.specs.declared.walk.Walk.{Walk}
 use Rattle.sml_expansion.specs.declared.mark.Mark.{Mark}
 use Rattle.sml_expansion.specs.declared.scope.Bindings.{Bindings}
 use Rattle.sml_expansion.specs.Scoped.{oldest}
 use Rattle.sml_expansion.specs.Sources.{Source}
-use Rattle.sml_expansion.specs.Forests.{Forest, count}
+use Rattle.sml_expansion.specs.Forests.{Forest, none, tree, count}
 use Rattle.sml_expansion.specs.Marks.{marks}
 use Rattle.sml_expansion.specs.Makings.{Makes}
 use Rattle.sml_expansion.specs.Scopes.{Scope, Env, scope_of}
 use Rattle.sml_expansion.specs.Patterns.{Pattern}
+use Rattle.sml_expansion.specs.Bindings.{Decs}
+use Rattle.sml_expansion.specs.declared.mark.Mark.TheVariants.{Open, Close}
 use Rattle.sml_expansion.specs.Expressions.{Position, function_part, elsewhere}
 use Rattle.sml_derive.specs.declared.identifiers.Stands.{Stands}
 use Rattle.sml_derive.specs.declared.identifiers.Stands.TheVariants.{Applied, Elsewhere}
@@ -52,3 +54,15 @@ position Elsewhere = elsewhere
 -- what was bound since there were n values goes out of scope
 abbrev pub unseen : ℕ → Walk → Walk
 unseen n w = record { made = w.made; bindings = record { values = oldest n w.bindings.values; types = w.bindings.types; tyvars = w.bindings.tyvars }; marks = w.marks }
+
+abbrev pub forgotten : ℕ → ℕ → Walk → Walk
+forgotten n m w = record { made = w.made; bindings = record { values = oldest n w.bindings.values; types = oldest m w.bindings.types; tyvars = w.bindings.tyvars }; marks = w.marks }
+
+-- each tree with one more mark before it, for the node that it stands under
+abbrev pub leads : Forest → List Mark
+leads none = []
+leads (tree n p parts rest) = Open ∷ Open ∷ (marks parts ++ Close n p ∷ leads rest)
+
+-- declarations are made and written, and what they bind is in scope
+abbrev pub led : Makes Decs → Walk → Walk
+led f w = record { made = (f w.made).1; bindings = bound_too (f w.made).0.env w.bindings; marks = w.marks ++ leads (f w.made).0.forest }

@@ -14,7 +14,7 @@ use crate::identifiers::{Stands, atom, identifier};
 use crate::number::{add, one_tree};
 use crate::pairs::{self, Matched, Pair};
 use crate::functions::fn_match;
-use crate::parts::{labels, see, type_of, unsee, whole_pattern};
+use crate::parts::{decs, forget, labels, see, type_of, unsee, whole_pattern};
 use sml_expansion::once::labels_once;
 use sml_expansion::{Parsed, Walk};
 use sml_tree::TreeNode;
@@ -136,8 +136,28 @@ pub(crate) fn expression(parsed: &Parsed, walk: &mut Walk, stands: Stands, at: u
             walk.close(Node::Typed(0, ty), place)?;
             Ok(1)
         }
-        TreeNode::While => Err(NoMemory),
-        TreeNode::Let => Err(NoMemory),
+        TreeNode::While => {
+            let place = parsed.place(at);
+            let (condition, body) = parsed.two(at);
+            let name = walk.made.new_name(b"v")?;
+            forms::open_while(walk, place)?;
+            expression(parsed, walk, Stands::Elsewhere, condition)?;
+            forms::begin_turn(walk, place)?;
+            alone(parsed, walk, body)?;
+            forms::close_while(walk, place, name)?;
+            Ok(1)
+        }
+        TreeNode::Let => {
+            let place = parsed.place(at);
+            let (declared, body) = parsed.two(at);
+            let values = walk.bindings.values.len();
+            let types = walk.bindings.types.len();
+            let trees = decs(parsed, walk, declared)?;
+            sequence(parsed, walk, place, body)?;
+            forms::close_lets(walk, place, trees)?;
+            forget(walk, values, types);
+            Ok(1)
+        }
         _ => atom(parsed, walk, stands, at),
     }
 }

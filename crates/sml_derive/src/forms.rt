@@ -10,11 +10,11 @@ ghost use Rattle.sml_expansion.specs.Bare.{tuple_node, eta_node, con_true, con_f
 ghost use Rattle.sml_expansion.specs.Labels.{numbers};
 ghost use Rattle.sml_expansion.specs.Types.{labs_of};
 ghost use Rattle.sml_derive.specs.Steps.{behind, marked};
-ghost use Rattle.sml_derive.specs.Forms.{new_eta, times, case_end, cons_begins, cons_end};
+ghost use Rattle.sml_derive.specs.Forms.{new_eta, times, case_end, let_end, cons_begins, cons_end, while_begins, turn_begins, call_node, turn_ends, while_ends};
 
 use sml_expansion::Walk;
 use sml_expansion::labels::{fields, tuple_fields};
-use sml_tree::bare::{Con, Lab, Node};
+use sml_tree::bare::{Con, Lab, Node, RecBinding};
 use smlc_base::{Name, NoMemory, Place, Row};
 
 pub(crate) const TRUE: Con = Con::Data {
@@ -180,6 +180,83 @@ pub(crate) fn close_conses(walk: &mut Walk, place: Place, count: u32) -> Result<
 {
     for _ in 0..count {
         close_cons(walk, place)?;
+    }
+    Ok(())
+}
+
+/// The beginning of a loop: its function, before the condition.
+pub(crate) fn open_while(walk: &mut Walk, place: Place) -> Result<(), NoMemory>
+    ensures { OnOk result (walk.new ≡ marked (while_begins place) walk.old) }
+{
+    walk.open()?;
+    walk.open()?;
+    walk.open()?;
+    let fields = Row::new(walk.allocator());
+    walk.leaf(Node::PatRecord(fields), place)?;
+    walk.open()
+}
+
+/// Between the condition of a loop and its body.
+pub(crate) fn begin_turn(walk: &mut Walk, place: Place) -> Result<(), NoMemory>
+    ensures { OnOk result (walk.new ≡ marked (turn_begins place) walk.old) }
+{
+    walk.leaf(Node::PatCon(TRUE), place)?;
+    walk.open()
+}
+
+/// The call of a loop's function.
+fn turn_again(walk: &mut Walk, place: Place, name: u32) -> Result<(), NoMemory>
+    ensures { OnOk result (walk.new ≡ marked (marks (call_node place name)) walk.old) }
+{
+    walk.open()?;
+    walk.leaf(Node::Var(Name(name)), place)?;
+    let fields = Row::new(walk.allocator());
+    walk.leaf(Node::Record(fields), place)?;
+    walk.close(Node::App(0, 0), place)
+}
+
+/// The end of the recursive declaration of one function.
+fn close_rec(walk: &mut Walk, place: Place, name: u32) -> Result<(), NoMemory>
+    ensures { OnOk result (walk.new ≡ marked (Close (bare.ValRec [] (record { name = record { 0 = name }; right = 0 } ∷ [])) place ∷ []) walk.old) }
+{
+    let tyvars = Row::new(walk.allocator());
+    let mut bindings = Row::new(walk.allocator());
+    bindings.push(RecBinding {
+        name: Name(name),
+        right: 0,
+    })?;
+    walk.close(Node::ValRec(tyvars, bindings), place)
+}
+
+/// Behind a body of a loop: the turn's end.
+fn close_turn(walk: &mut Walk, place: Place, name: u32) -> Result<(), NoMemory>
+    ensures { OnOk result (walk.new ≡ marked (turn_ends place name) walk.old) }
+{
+    wild(walk, place)?;
+    turn_again(walk, place, name)?;
+    close_case(walk, place)?;
+    if_false(walk, place)?;
+    walk.leaf(Node::Record(Row::new(walk.allocator())), place)?;
+    close_case(walk, place)
+}
+
+/// Behind the body of a loop.
+pub(crate) fn close_while(walk: &mut Walk, place: Place, name: u32) -> Result<(), NoMemory>
+    ensures { OnOk result (walk.new ≡ marked (while_ends place name) walk.old) }
+{
+    close_turn(walk, place, name)?;
+    close_fn(walk, place)?;
+    close_rec(walk, place, name)?;
+    turn_again(walk, place, name)?;
+    walk.close(Node::Let(0, 0), place)
+}
+
+/// The ends of so many `let`s.
+pub(crate) fn close_lets(walk: &mut Walk, place: Place, count: u32) -> Result<(), NoMemory>
+    ensures { OnOk result (walk.new ≡ marked (times count (let_end place)) walk.old) }
+{
+    for _ in 0..count {
+        walk.close(Node::Let(0, 0), place)?;
     }
     Ok(())
 }

@@ -3,9 +3,11 @@
 ghost use Rattle.std.specs.Prelude.{◌≡◌, IfOk, OnOk};
 ghost use Rattle.sml_expansion.specs.Terms.{Term};
 ghost use Rattle.sml_expansion.specs.Sources.{IsAt};
+ghost use Rattle.sml_expansion.specs.Forests.{count};
 ghost use Rattle.sml_expansion.specs.Types.{labels, type_of};
+ghost use Rattle.sml_expansion.specs.Expressions.{decs};
 ghost use Rattle.sml_expansion.specs.Patterns.{whole, patterns, env_of};
-ghost use Rattle.sml_derive.specs.Steps.{scope, made, writes_pattern, seen, unseen};
+ghost use Rattle.sml_derive.specs.Steps.{scope, made, writes_pattern, seen, unseen, forgotten, led};
 
 use sml_expansion::{Bound, Parsed, Walk};
 use sml_tree::bare::Lab;
@@ -46,4 +48,20 @@ pub fn unsee(walk: &mut Walk, around: usize)
     ensures { walk.new ≡ unseen around walk.old }
 {
     walk.bindings.values.undo_to(around);
+}
+
+/// What was bound since there were so many values and types goes out of scope.
+pub fn forget(walk: &mut Walk, values: usize, types: usize)
+    ensures { walk.new ≡ forgotten values types walk.old }
+{
+    walk.bindings.values.undo_to(values);
+    walk.bindings.types.undo_to(types);
+}
+
+/// The declarations of a sequence: how many trees there are. What they bind is in scope.
+pub fn decs(parsed: &Parsed, walk: &mut Walk, at: u32) -> Result<u32, NoMemory>
+    ensures walk { OnOk result ((t : Term) → IsAt parsed.now at t → walk.new ≡ led (decs (scope parsed.now walk.old) t) walk.old) }
+    ensures trees { IfOk result (λ trees. (t : Term) → IsAt parsed.now at t → trees ≡ count (decs (scope parsed.now walk.old) t walk.old.made).0.forest) }
+{
+    Err(NoMemory)
 }

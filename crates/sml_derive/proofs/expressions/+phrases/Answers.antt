@@ -23,6 +23,7 @@ use Rattle.sml_derive.proofs.Atoms.{identifier_writes}
 use Rattle.sml_expansion.specs.Marks.{marks}
 use Rattle.sml_expansion.specs.Bare.{sequence_node, list_node, wild_node}
 use Rattle.sml_derive.specs.Forms.{case_end, cons_begins, cons_end, sequence_of, list_of}
+use Rattle.sml_derive.proofs.Nests.{sequence_pair, while_writes, let_writes}
 use Rattle.sml_derive.proofs.Sequences.{LeftNest, nest_less, sequence_cons, list_cons, sequence_done, list_done}
 use Rattle.sml_derive.proofs.expressions.+phrases.Goals as goal
 
@@ -111,7 +112,7 @@ pub rules-returns : goal.rules-returns
 rules-returns t c = on_so c.rule-2.result _ _ (λ w u k. let l = c.loop-first.invariant.left u k in l.goes c.rule-2.new.walk (w l.term l.stands)) c.rule-2.ensures
 
 pub alone-returns : goal.alone-returns
-alone-returns t c = ?
+alone-returns t c = on_so c.one_tree.result _ _ (λ e u k. subst (λ n. Writes (expressions elsewhere (scope c.args.parsed.now c.args.walk.now) u) c.args.walk.now c.expression.new.walk n) e (c.in_ok-trees.ensures u k)) c.one_tree.ensures
 
 pub sequence-loop-first-preserved : goal.sequence-loop-first-preserved
 sequence-loop-first-preserved t c = let e : is_list (node_at c.args.parsed.now c.loop-first.next) ≡ true = ap is_list (sym c.node.ensures) ∙ sym c.is_list.ensures ∙ c.loop-first-test.true in let z : (c.two-first.result.0 < c.loop-first.next) × (c.two-first.result.1 < c.loop-first.next) = c.two-first.ensures.below (list_parts (node_at c.args.parsed.now c.loop-first.next) e) in record { left = λ u k. let l = c.loop-first.invariant.left u k in as_list c.args.parsed.now c.loop-first.next l.term l.stands e (λ r. l.term ≡ r → LeftNest c.args.parsed.now (sequence_node c.args.place) (case_end c.args.place) (λ d r. expressions elsewhere (scope_of c.args.parsed.now.names d) r) u c.args.walk.now c.wild.new.walk c.two-first.result.1 c.in_ok-cases.cases) (λ n p a b h split same. let parts = c.two-first.ensures.parts n p a b h in nest_less c.args.parsed.now (sequence_node c.args.place) (Open ∷ []) (marks (wild_node c.args.place)) (case_end c.args.place) (λ d r. expressions elsewhere (scope_of c.args.parsed.now.names d) r) u a b c.args.walk.now c.loop-first.walk c.open.new.self c.alone.new.walk c.wild.new.walk c.loop-first.next c.two-first.result.1 c.loop-first.cases c.in_ok-cases.cases l parts.1 (ap (λ (r : Term). expressions elsewhere (scope c.args.parsed.now c.loop-first.walk) r) same ∙ split (scope c.args.parsed.now c.loop-first.walk)) (c.in_ok-alone.ensures a parts.0) c.in_ok-cases.ensures (sequence_cons c.args.place) (is c.in_ok-open.ensures) (is c.in_ok-wild.ensures)) refl; below = omega (arith, z.1, c.loop-first.invariant.below) }
@@ -126,7 +127,7 @@ pub list-returns : goal.list-returns
 list-returns t c = on_so c.close_conses.result _ _ (λ w u k. let l = c.loop-first.invariant.left u k in list_done c.args.parsed.now c.args.place (λ d r. expressions elsewhere (scope_of c.args.parsed.now.names d) r) u c.args.walk.now c.loop-first.walk c.open_cons-2.new.walk c.alone-2.new.walk c.close_list.new.walk c.close_conses.new.walk c.loop-first.next c.loop-first.conses l (is c.in_ok-open_cons-2.ensures) (c.in_ok-alone-2.ensures l.term l.stands) (is c.in_ok-close_list.ensures) w) c.close_conses.ensures
 
 pub expression-returns-in_ok-list-in-List : goal.expression-returns-in_ok-list-in-List
-expression-returns-in_ok-list-in-List t c = ?
+expression-returns-in_ok-list-in-List t c = λ u k. as_one c.args.parsed.now c.args.at u node.List k (sym c.node.ensures ∙ c.in-List.is) refl (λ u. Writes (expressions (position c.args.stands) (scope c.args.parsed.now c.args.walk.now) u) c.args.walk.now c.list.new.walk 1) (λ p a h. subst (λ q. Writes (expressions (position c.args.stands) (scope c.args.parsed.now c.args.walk.now) (one node.List q a)) c.args.walk.now c.list.new.walk 1) (c.place-place-in-List.ensures _ h) (c.in_ok-list-in-List.ensures a (c.one-in-List.ensures.part _ p a h)))
 
 pub expression-returns-in_ok-close_case-in-Sequence : goal.expression-returns-in_ok-close_case-in-Sequence
-expression-returns-in_ok-close_case-in-Sequence t c = ?
+expression-returns-in_ok-close_case-in-Sequence t c = λ u k. as_two c.args.parsed.now c.args.at u node.Sequence k (sym c.node.ensures ∙ c.in-Sequence.is) refl (λ u. Writes (expressions (position c.args.stands) (scope c.args.parsed.now c.args.walk.now) u) c.args.walk.now c.close_case-in-Sequence.new.walk 1) (λ p a b h. let parts = c.two-first-in-Sequence.ensures.parts _ p a b h in subst (λ q. Writes (expressions (position c.args.stands) (scope c.args.parsed.now c.args.walk.now) (two node.Sequence q a b)) c.args.walk.now c.close_case-in-Sequence.new.walk 1) (c.place-place-in-Sequence.ensures _ h) (sequence_pair (λ d. expressions elsewhere (scope_of c.args.parsed.now.names d) a) (λ d. expressions elsewhere (scope_of c.args.parsed.now.names d) b) c.place-place-in-Sequence.result c.args.walk.now c.open-in-Sequence.new.self _ c.wild.new.walk _ _ (is c.in_ok-open-in-Sequence.ensures) (c.in_ok-alone-in-Sequence.ensures a parts.0) (is c.in_ok-wild-in-Sequence.ensures) (c.in_ok-sequence-in-Sequence.ensures b parts.1) (is c.in_ok-close_case-in-Sequence.ensures)))
