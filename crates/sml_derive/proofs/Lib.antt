@@ -1,5 +1,6 @@
 pub mod Atoms
 pub mod Counting
+pub mod Declaring
 pub mod FormLemmas
 pub mod Nests
 pub mod Schemas

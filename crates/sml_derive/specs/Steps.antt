@@ -1,5 +1,5 @@
 -- What a step of the expansion does to its state.
-use Rattle.std.specs.Prelude.{◌≡◌, ℕ, [], ◌∷◌, ◌++◌, List, Bool, true, false}
+use Rattle.std.specs.Prelude.{◌≡◌, ℕ, ◌-◌, length, take, [], ◌∷◌, ◌++◌, List, Bool, true, false}
 use Rattle.sml_expansion.specs.declared.walk.Walk.{Walk}
 use Rattle.sml_expansion.specs.declared.mark.Mark.{Mark}
 use Rattle.sml_expansion.specs.declared.scope.Bindings.{Bindings}
@@ -66,3 +66,16 @@ leads (tree n p parts rest) = Open ∷ Open ∷ (marks parts ++ Close n p ∷ le
 -- declarations are made and written, and what they bind is in scope
 abbrev pub led : Makes Decs → Walk → Walk
 led f w = record { made = (f w.made).1; bindings = bound_too (f w.made).0.env w.bindings; marks = w.marks ++ leads (f w.made).0.forest }
+
+-- so many declaration trees are made and written, and what they bind is in scope
+pub record Declares (f : Makes Decs) (before after : Walk) (trees : ℕ) : Type 0 where
+  pub walk : after ≡ led f before
+  pub written : trees ≡ count (f before.made).0.forest
+
+-- the same with no mark before each tree
+abbrev pub declared : Makes Decs → Walk → Walk
+declared f w = record { made = (f w.made).1; bindings = bound_too (f w.made).0.env w.bindings; marks = w.marks ++ marks (f w.made).0.forest }
+
+-- bindings without those between two numbers of them
+abbrev pub hidden : {A : Type 0} → ℕ → ℕ → List A → List A
+hidden from to env = take (length env - to) env ++ oldest from env

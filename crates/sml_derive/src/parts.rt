@@ -1,13 +1,15 @@
 //! What other crates expand.
 
 ghost use Rattle.std.specs.Prelude.{◌≡◌, IfOk, OnOk};
-ghost use Rattle.sml_expansion.specs.Terms.{Term};
+ghost use Rattle.sml_expansion.specs.Terms.{Term, two};
 ghost use Rattle.sml_expansion.specs.Sources.{IsAt};
-ghost use Rattle.sml_expansion.specs.Forests.{count};
+ghost use Rattle.smlc_base.specs.declared.place.Place.{Place};
+ghost use Rattle.sml_tree.specs.declared.tree_node.TreeNode.TheVariants as node;
+ghost use Rattle.sml_expansion.specs.Bindings.{type_dec, datatype_dec, exception_dec};
 ghost use Rattle.sml_expansion.specs.Types.{labels, type_of};
 ghost use Rattle.sml_expansion.specs.Expressions.{decs};
 ghost use Rattle.sml_expansion.specs.Patterns.{whole, patterns, env_of};
-ghost use Rattle.sml_derive.specs.Steps.{scope, made, writes_pattern, seen, unseen, forgotten, led};
+ghost use Rattle.sml_derive.specs.Steps.{scope, made, writes_pattern, seen, unseen, forgotten, declared, hidden, Declares};
 
 use sml_expansion::{Bound, Parsed, Walk};
 use sml_tree::bare::Lab;
@@ -58,10 +60,45 @@ pub fn forget(walk: &mut Walk, values: usize, types: usize)
     walk.bindings.types.undo_to(types);
 }
 
-/// The declarations of a sequence: how many trees there are. What they bind is in scope.
-pub fn decs(parsed: &Parsed, walk: &mut Walk, at: u32) -> Result<u32, NoMemory>
-    ensures walk { OnOk result ((t : Term) → IsAt parsed.now at t → walk.new ≡ led (decs (scope parsed.now walk.old) t) walk.old) }
-    ensures trees { IfOk result (λ trees. (t : Term) → IsAt parsed.now at t → trees ≡ count (decs (scope parsed.now walk.old) t walk.old.made).0.forest) }
+/// What was bound between two numbers of values and two numbers of types goes out of scope.
+pub fn hide(walk: &mut Walk, values: usize, inner_values: usize, types: usize, inner_types: usize) -> Result<(), NoMemory>
+    ensures { OnOk result (walk.new ≡ record { made = walk.old.made; bindings = record { values = hidden values inner_values walk.old.bindings.values; types = hidden types inner_types walk.old.bindings.types; tyvars = walk.old.bindings.tyvars }; marks = walk.old.marks }) }
+{
+    walk.bindings.values.cut(values, inner_values)?;
+    walk.bindings.types.cut(types, inner_types)
+}
+
+/// A `type` declaration.
+pub fn type_dec(parsed: &Parsed, walk: &mut Walk, place: Place, at: u32) -> Result<(), NoMemory>
+    ensures { OnOk result ((t : Term) → IsAt parsed.now at t → walk.new ≡ declared (type_dec (scope parsed.now walk.old) place t) walk.old) }
+{
+    Err(NoMemory)
+}
+
+/// A `datatype` declaration.
+pub fn datatype_dec(parsed: &Parsed, walk: &mut Walk, place: Place, at: u32) -> Result<(), NoMemory>
+    ensures { OnOk result ((t : Term) → IsAt parsed.now at t → walk.new ≡ declared (datatype_dec (scope parsed.now walk.old) place t) walk.old) }
+{
+    Err(NoMemory)
+}
+
+/// An `exception` declaration.
+pub fn exception_dec(parsed: &Parsed, walk: &mut Walk, place: Place, at: u32) -> Result<u32, NoMemory>
+    ensures { IfOk result (λ trees. (t : Term) → IsAt parsed.now at t → Declares (exception_dec (scope parsed.now walk.old) place t) walk.old walk.new trees) }
+{
+    Err(NoMemory)
+}
+
+/// A `val` declaration.
+pub fn val_dec(parsed: &Parsed, walk: &mut Walk, at: u32) -> Result<u32, NoMemory>
+    ensures { IfOk result (λ trees. (p : Place) (vs b : Term) → IsAt parsed.now at (two node.Val p vs b) → Declares (decs (scope parsed.now walk.old) (two node.Val p vs b)) walk.old walk.new trees) }
+{
+    Err(NoMemory)
+}
+
+/// A `fun` declaration.
+pub fn fun_dec(parsed: &Parsed, walk: &mut Walk, at: u32) -> Result<u32, NoMemory>
+    ensures { IfOk result (λ trees. (p : Place) (vs b : Term) → IsAt parsed.now at (two node.Fun p vs b) → Declares (decs (scope parsed.now walk.old) (two node.Fun p vs b)) walk.old walk.new trees) }
 {
     Err(NoMemory)
 }

@@ -136,4 +136,4 @@ pub expression-returns-in_ok-close_while-in-While : goal.expression-returns-in_o
 expression-returns-in_ok-close_while-in-While t c = λ u k. as_two c.args.parsed.now c.args.at u node.While k (sym c.node.ensures ∙ c.in-While.is) refl (λ u. Writes (expressions (position c.args.stands) (scope c.args.parsed.now c.args.walk.now) u) c.args.walk.now c.close_while.new.walk 1) (λ p a b h. let parts = c.two-condition.ensures.parts _ p a b h in subst (λ q. Writes (expressions (position c.args.stands) (scope c.args.parsed.now c.args.walk.now) (two node.While q a b)) c.args.walk.now c.close_while.new.walk 1) (c.place-place-in-While.ensures _ h) (while_writes c.args.parsed.now (position c.args.stands) c.place-place-in-While.result a b c.args.walk.now c.in_ok-name-in-While.name c.new_name.new.self c.open_while.new.walk c.expression-in-While.new.walk c.begin_turn.new.walk c.alone-in-While.new.walk c.close_while.new.walk (is (sym (ap (λ r. r.0) c.in_ok-name-in-While.ensures))) (is (sym (ap (λ r. r.1) c.in_ok-name-in-While.ensures))) (is c.in_ok-open_while-in-While.ensures) (is (c.in_ok-expression-in-While.ensures a parts.0).walk) (is c.in_ok-begin_turn-in-While.ensures) (c.in_ok-alone-in-While.ensures b parts.1) (is c.in_ok-close_while-in-While.ensures)))
 
 pub expression-returns-in_ok-close_lets-in-Let : goal.expression-returns-in_ok-close_lets-in-Let
-expression-returns-in_ok-close_lets-in-Let t c = λ u k. as_two c.args.parsed.now c.args.at u node.Let k (sym c.node.ensures ∙ c.in-Let.is) refl (λ u. Writes (expressions (position c.args.stands) (scope c.args.parsed.now c.args.walk.now) u) c.args.walk.now c.forget.new.walk 1) (λ p d a h. let parts = c.two-declared.ensures.parts _ p d a h in subst (λ q. Writes (expressions (position c.args.stands) (scope c.args.parsed.now c.args.walk.now) (two node.Let q d a)) c.args.walk.now c.forget.new.walk 1) (c.place-place-in-Let.ensures _ h) (let_writes c.args.parsed.now (position c.args.stands) c.place-place-in-Let.result d a c.args.walk.now c.len-values.result c.len-types.result c.in_ok-trees-in-Let.trees c.decs.new.walk c.sequence-in-Let.new.walk c.close_lets.new.walk c.forget.new.walk (sym c.len-values.ensures) (sym c.len-types.ensures) (is (c.in_ok-trees-in-Let.ensures.walk d parts.0)) (is (c.in_ok-trees-in-Let.ensures.trees d parts.0)) (c.in_ok-sequence-in-Let.ensures a parts.1) (is c.in_ok-close_lets-in-Let.ensures) (is c.forget.ensures)))
+expression-returns-in_ok-close_lets-in-Let t c = λ u k. as_two c.args.parsed.now c.args.at u node.Let k (sym c.node.ensures ∙ c.in-Let.is) refl (λ u. Writes (expressions (position c.args.stands) (scope c.args.parsed.now c.args.walk.now) u) c.args.walk.now c.forget.new.walk 1) (λ p d a h. let parts = c.two-declared.ensures.parts _ p d a h in subst (λ q. Writes (expressions (position c.args.stands) (scope c.args.parsed.now c.args.walk.now) (two node.Let q d a)) c.args.walk.now c.forget.new.walk 1) (c.place-place-in-Let.ensures _ h) (let_writes c.args.parsed.now (position c.args.stands) c.place-place-in-Let.result d a c.args.walk.now c.len-values.result c.len-types.result c.in_ok-trees-in-Let.trees c.decs.new.walk c.sequence-in-Let.new.walk c.close_lets.new.walk c.forget.new.walk (sym c.len-values.ensures) (sym c.len-types.ensures) (is (c.in_ok-trees-in-Let.ensures d parts.0).walk) (is (c.in_ok-trees-in-Let.ensures d parts.0).written) (c.in_ok-sequence-in-Let.ensures a parts.1) (is c.in_ok-close_lets-in-Let.ensures) (is c.forget.ensures)))
