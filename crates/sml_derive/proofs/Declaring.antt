@@ -97,9 +97,9 @@ one_dec_less s t a b p before now next at rest trees more sum l k reads h q = re
   term = b;
   stands = k;
   goes = λ w n g.
-    let r : Declares (decs (scope s before) t) before w (trees + (more + n)) = l.goes w (more + n) (subst (λ (u : Term). Declares (decs (scope s now) u) now w (more + n)) (sym reads) (declares_behind s p a b now next w more n (more + n) h g refl)) in
-    let c : trees + (more + n) ≡ count (decs (scope s before) t before.made).0.forest = r.written in
-    record { walk = r.walk; written = omega (arith, c, q) };
+      let r : Declares (decs (scope s before) t) before w (trees + (more + n)) = l.goes w (more + n) (subst (λ (u : Term). Declares (decs (scope s now) u) now w (more + n)) (sym reads) (declares_behind s p a b now next w more n (more + n) h g refl)) in
+      let c : trees + (more + n) ≡ count (decs (scope s before) t before.made).0.forest = r.written in
+      record { walk = r.walk; written = omega (arith, c, q) };
 }
 
 pub no_dec : (s : Scope) (t : Term) (n : TreeNode) → n ≡ node_of t → (n ≡ node.MoreDecs → ⊥) → (n ≡ node.Local → ⊥) → (n ≡ node.Val → ⊥) → (n ≡ node.Fun → ⊥) → (n ≡ node.Type → ⊥) → (n ≡ node.Datatype → ⊥) → (n ≡ node.Exception → ⊥) → gives no_decs ≡ decs s t

@@ -174,7 +174,7 @@ pub record_writes : (s : Source) (h : Position) (q : Place) (a : Term) (w0 : Wal
 record_writes s h q a w0 _ _ _ w1 w2 w3 same same same b e g =
     let labs = labels s.names a in
     then_writes (labels_once labs) (◌>>=◌ (expressions elsewhere (scope s w0) a) (λ x. gives (record_node q (labs_of labs) x))) w0 w3 1
-      (one_part (λ d. expressions elsewhere (scope_of s.names d) a) (λ x. record_node q (labs_of labs) x) (Open ∷ []) (λ x. Close (bare.Record (fields (labs_of labs))) q ∷ []) (made (labels_once labs) w0) w1 w2 w3 (λ x. refl) (λ x. refl) b e g)
+    (one_part (λ d. expressions elsewhere (scope_of s.names d) a) (λ x. record_node q (labs_of labs) x) (Open ∷ []) (λ x. Close (bare.Record (fields (labs_of labs))) q ∷ []) (made (labels_once labs) w0) w1 w2 w3 (λ x. refl) (λ x. refl) b e g)
 
 pub typed_writes : (s : Source) (h : Position) (q : Place) (a t : Term) (w0 : Walk) (ty : ℕ) (w1 w2 w3 w4 : Walk)
     → Is (made (type_of (scope s w0) t) w0) w1 → Is (type_of (scope s w0) t w0.made).0 ty → Is (marked (Open ∷ []) w1) w2
@@ -183,4 +183,4 @@ pub typed_writes : (s : Source) (h : Position) (q : Place) (a t : Term) (w0 : Wa
 typed_writes s h q a t w0 _ _ w2 w3 w4 same same b e g =
     let ty = (type_of (scope s w0) t w0.made).0 in
     bind_writes (type_of (scope s w0) t) (λ ty. ◌>>=◌ (expressions elsewhere (scope s w0) a) (λ x. gives (typed_node q (ty ∷ []) x))) w0 w4 1
-      (one_part (λ d. expressions elsewhere (scope_of s.names d) a) (λ x. grown (bare.Typed 0 ty) q x) (Open ∷ []) (λ x. Close (bare.Typed 0 ty) q ∷ []) (made (type_of (scope s w0) t) w0) w2 w3 w4 (λ x. refl) (λ x. refl) b e g)
+    (one_part (λ d. expressions elsewhere (scope_of s.names d) a) (λ x. grown (bare.Typed 0 ty) q x) (Open ∷ []) (λ x. Close (bare.Typed 0 ty) q ∷ []) (made (type_of (scope s w0) t) w0) w2 w3 w4 (λ x. refl) (λ x. refl) b e g)

@@ -58,7 +58,7 @@ pub while_writes : (s : Source) (h : Position) (p : Place) (a b : Term) (w0 : Wa
 while_writes s h p a b w0 _ _ w1 w2 w3 w4 w5 same same begin c d one e =
     let v = (new_name (codes "v") w0.made).0 in
     bind_writes (new_name (codes "v")) (λ v. ◌>>=◌ (expressions elsewhere (scope s w0) a) (λ x. ◌>>=◌ (expressions elsewhere (scope s w0) b) (λ y. gives (while_node p v x y)))) w0 w5 1
-      (first_and_one (λ d. expressions elsewhere (scope_of s.names d) a) (λ d. expressions elsewhere (scope_of s.names d) b) (while_node p v) (while_begins p) (turn_begins p) (while_ends p v) (made (new_name (codes "v")) w0) w1 w2 w3 w4 w5 (while_spells p v) (λ x y. refl) begin c d one e)
+    (first_and_one (λ d. expressions elsewhere (scope_of s.names d) a) (λ d. expressions elsewhere (scope_of s.names d) b) (while_node p v) (while_begins p) (turn_begins p) (while_ends p v) (made (new_name (codes "v")) w0) w1 w2 w3 w4 w5 (while_spells p v) (λ x y. refl) begin c d one e)
 
 -- an expression before the others of a sequence
 sequence_some : (p : Place) (y : Forest) → 1 ≡ count (sequence_node p y) → 1 ≤ count y

@@ -89,12 +89,12 @@ nest_less s H begins between ends F t a b before now w1 w2 next at rest n m l k 
       stands = k;
       some = λ h. l.some (more h);
       goes = λ w h e.
-        let f : marked ends w ≡ behind (nested H (F now.bindings l.term)) now =
-            ap (marked ends) e
-            ∙ marks_same (record now { made = y.1 }) _ _ (gathered_two now.marks begins (marks x.0) between (marks (H y.0)) ends ∙ ap (λ (z : List Mark). now.marks ++ z) (sym (spells x.0 y.0 o h)))
-            ∙ ap (λ (g : Makes Forest). behind (nested H g) now) (sym split) in
-        let j : m ≡ suc n = omega (arith, sum) in
-        ap (λ (i : ℕ). marked (times i ends) w) j ∙ sym (twice w ends (times n ends)) ∙ l.goes (marked ends w) (more h) f;
+          let f : marked ends w ≡ behind (nested H (F now.bindings l.term)) now =
+          ap (marked ends) e
+          ∙ marks_same (record now { made = y.1 }) _ _ (gathered_two now.marks begins (marks x.0) between (marks (H y.0)) ends ∙ ap (λ (z : List Mark). now.marks ++ z) (sym (spells x.0 y.0 o h)))
+          ∙ ap (λ (g : Makes Forest). behind (nested H g) now) (sym split) in
+          let j : m ≡ suc n = omega (arith, sum) in
+          ap (λ (i : ℕ). marked (times i ends) w) j ∙ sym (twice w ends (times n ends)) ∙ l.goes (marked ends w) (more h) f;
     }
       where
         more : 1 ≤ count y.0 → 1 ≤ count (F now.bindings l.term now.made).0

@@ -64,7 +64,7 @@ one_less_counted s F t a b before now next at rest trees more sum l k e h q = re
   term = b;
   stands = k;
   goes = λ w n g.
-    let r : Writes (F before.bindings t) before w (trees + (more + n)) = l.goes w (more + n) (subst (λ f. Writes f now w (more + n)) (sym e) (writes_both (F now.bindings a) (λ m. F m b) now next w more n (more + n) h g refl)) in
-    let c : trees + (more + n) ≡ count (F before.bindings t before.made).0 = r.written in
-    record { walk = r.walk; written = omega (arith, c, q) };
+      let r : Writes (F before.bindings t) before w (trees + (more + n)) = l.goes w (more + n) (subst (λ f. Writes f now w (more + n)) (sym e) (writes_both (F now.bindings a) (λ m. F m b) now next w more n (more + n) h g refl)) in
+      let c : trees + (more + n) ≡ count (F before.bindings t before.made).0 = r.written in
+      record { walk = r.walk; written = omega (arith, c, q) };
 }

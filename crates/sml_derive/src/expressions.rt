@@ -9,12 +9,12 @@ ghost use Rattle.sml_derive.specs.Forms.{sequence_of, list_of};
 ghost use Rattle.sml_derive.specs.Steps.{Writes, scope, position, behind};
 ghost use Rattle.sml_derive.specs.Pairs.{is_list, pair_of, match_of};
 
+use crate::declarations::decs;
 use crate::forms;
+use crate::functions::fn_match;
 use crate::identifiers::{Stands, atom, identifier};
 use crate::number::{add, one_tree};
 use crate::pairs::{self, Matched, Pair};
-use crate::functions::fn_match;
-use crate::declarations::decs;
 use crate::parts::{forget, labels, see, type_of, unsee, whole_pattern};
 use sml_expansion::once::labels_once;
 use sml_expansion::{Parsed, Walk};
@@ -24,7 +24,12 @@ use smlc_base::{NoMemory, Place};
 
 /// The expressions of a list, one for an expression alone.
 #[cycle(phrases)]
-pub(crate) fn expression(parsed: &Parsed, walk: &mut Walk, stands: Stands, at: u32) -> Result<u32, NoMemory>
+pub(crate) fn expression(
+    parsed: &Parsed,
+    walk: &mut Walk,
+    stands: Stands,
+    at: u32,
+) -> Result<u32, NoMemory>
     ensures { IfOk result (λ trees. (t : Term) → IsAt parsed.now at t → Writes (expressions (position stands) (scope parsed.now walk.old) t) walk.old walk.new trees) }
 {
     match parsed.node(at) {
@@ -84,7 +89,13 @@ pub(crate) fn expression(parsed: &Parsed, walk: &mut Walk, stands: Stands, at: u
             let place = parsed.place(at);
             let (left, operator, right) = parsed.three(at);
             walk.open()?;
-            identifier(parsed, walk, Stands::Applied, parsed.place(operator), parsed.ident(operator))?;
+            identifier(
+                parsed,
+                walk,
+                Stands::Applied,
+                parsed.place(operator),
+                parsed.ident(operator),
+            )?;
             walk.open()?;
             let trees = expression(parsed, walk, Stands::Elsewhere, left)?;
             let more = expression(parsed, walk, Stands::Elsewhere, right)?;

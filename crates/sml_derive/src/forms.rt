@@ -22,16 +22,19 @@ pub(crate) const TRUE: Con = Con::Data {
     number: 1,
     takes: false,
 };
+
 pub(crate) const FALSE: Con = Con::Data {
     type_name: 4,
     number: 0,
     takes: false,
 };
+
 pub(crate) const NIL: Con = Con::Data {
     type_name: 5,
     number: 0,
     takes: false,
 };
+
 pub(crate) const CONS: Con = Con::Data {
     type_name: 5,
     number: 1,
@@ -125,7 +128,11 @@ pub(crate) fn close_tuple(walk: &mut Walk, place: Place, count: u32) -> Result<(
 }
 
 /// The end of a record with these labels.
-pub(crate) fn close_record(walk: &mut Walk, place: Place, labs: Vec<(Lab, Place)>) -> Result<(), NoMemory>
+pub(crate) fn close_record(
+    walk: &mut Walk,
+    place: Place,
+    labs: Vec<(Lab, Place)>,
+) -> Result<(), NoMemory>
     ensures { OnOk result (walk.new ≡ marked (Close (bare.Record (fields (labs_of labs.items))) place ∷ []) walk.old) }
 {
     let row = fields(walk.allocator(), labs)?;

@@ -27,13 +27,31 @@ pub enum Stands {
 }
 
 /// An identifier: a function that isn't applied is expanded.
-pub(crate) fn identifier(parsed: &Parsed, walk: &mut Walk, stands: Stands, place: Place, ident: Ident) -> Result<(), NoMemory>
+pub(crate) fn identifier(
+    parsed: &Parsed,
+    walk: &mut Walk,
+    stands: Stands,
+    place: Place,
+    ident: Ident,
+) -> Result<(), NoMemory>
     ensures { OnOk result (walk.new ≡ behind (identifier (position stands) (scope parsed.now walk.old) place ident) walk.old) }
 {
     match parsed.value(&walk.bindings, ident.key) {
         Some(Meaning::Variable(name)) => walk.leaf(Node::Var(name), place),
-        Some(Meaning::Constructor(con)) => eta(walk, stands, place, takes_argument(con), Node::Constructor(con)),
-        Some(Meaning::Builtin(primitive)) => eta(walk, stands, place, is_function(primitive), Node::Builtin(primitive)),
+        Some(Meaning::Constructor(con)) => eta(
+            walk,
+            stands,
+            place,
+            takes_argument(con),
+            Node::Constructor(con),
+        ),
+        Some(Meaning::Builtin(primitive)) => eta(
+            walk,
+            stands,
+            place,
+            is_function(primitive),
+            Node::Builtin(primitive),
+        ),
         None => {
             walk.made.refuse(Refusal::Unbound(ident.place));
             forms::unit(walk, place)
@@ -42,7 +60,13 @@ pub(crate) fn identifier(parsed: &Parsed, walk: &mut Walk, stands: Stands, place
 }
 
 /// A primitive or a constructor.
-fn eta(walk: &mut Walk, stands: Stands, place: Place, function: bool, node: Node) -> Result<(), NoMemory>
+fn eta(
+    walk: &mut Walk,
+    stands: Stands,
+    place: Place,
+    function: bool,
+    node: Node,
+) -> Result<(), NoMemory>
     ensures { OnOk result (walk.new ≡ behind (eta (position stands) place function (grown node place none)) walk.old) }
 {
     match stands {
@@ -58,7 +82,12 @@ fn eta(walk: &mut Walk, stands: Stands, place: Place, function: bool, node: Node
 }
 
 /// An expression without parts, or an identifier.
-pub(crate) fn atom(parsed: &Parsed, walk: &mut Walk, stands: Stands, at: u32) -> Result<u32, NoMemory>
+pub(crate) fn atom(
+    parsed: &Parsed,
+    walk: &mut Walk,
+    stands: Stands,
+    at: u32,
+) -> Result<u32, NoMemory>
     requires { is_compound (node_at parsed.now at) ≡ Bool.false }
     ensures { IfOk result (λ trees. (t : Term) → IsAt parsed.now at t → Writes (expressions (position stands) (scope parsed.now walk.old) t) walk.old walk.new trees) }
 {

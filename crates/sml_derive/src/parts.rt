@@ -61,7 +61,13 @@ pub fn forget(walk: &mut Walk, values: usize, types: usize)
 }
 
 /// What was bound between two numbers of values and two numbers of types goes out of scope.
-pub fn hide(walk: &mut Walk, values: usize, inner_values: usize, types: usize, inner_types: usize) -> Result<(), NoMemory>
+pub fn hide(
+    walk: &mut Walk,
+    values: usize,
+    inner_values: usize,
+    types: usize,
+    inner_types: usize,
+) -> Result<(), NoMemory>
     ensures { OnOk result (walk.new ≡ record { made = walk.old.made; bindings = record { values = hidden values inner_values walk.old.bindings.values; types = hidden types inner_types walk.old.bindings.types; tyvars = walk.old.bindings.tyvars }; marks = walk.old.marks }) }
 {
     walk.bindings.values.cut(values, inner_values)?;
@@ -83,7 +89,12 @@ pub fn datatype_dec(parsed: &Parsed, walk: &mut Walk, place: Place, at: u32) -> 
 }
 
 /// An `exception` declaration.
-pub fn exception_dec(parsed: &Parsed, walk: &mut Walk, place: Place, at: u32) -> Result<u32, NoMemory>
+pub fn exception_dec(
+    parsed: &Parsed,
+    walk: &mut Walk,
+    place: Place,
+    at: u32,
+) -> Result<u32, NoMemory>
     ensures { IfOk result (λ trees. (t : Term) → IsAt parsed.now at t → Declares (exception_dec (scope parsed.now walk.old) place t) walk.old walk.new trees) }
 {
     Err(NoMemory)

@@ -13,7 +13,7 @@ decreases-dec l = l.at * 4
 abbrev pub invariant-decs-loop-first : goal.invariant-decs-loop-first
 invariant-decs-loop-first l = record {
   left : (t : Term) → IsAt l.parsed l.fn.at t → LeftDecs l.parsed t l.fn.walk l.walk l.next l.trees;
-  below : l.next ≤ l.fn.at
+  below : l.next ≤ l.fn.at;
 }
 
 abbrev pub decreases-decs-loop-first : goal.decreases-decs-loop-first

@@ -33,7 +33,7 @@ decreases-rules l = l.at * 4 + 3
 abbrev pub invariant-items-loop-first : goal.invariant-items-loop-first
 invariant-items-loop-first l = record {
   left : (t : Term) → IsAt l.parsed l.fn.at t → LeftCounted l.parsed (λ b. expressions elsewhere (scope_of l.parsed.names b)) t l.fn.walk l.walk l.next l.trees;
-  below : l.next ≤ l.fn.at
+  below : l.next ≤ l.fn.at;
 }
 
 abbrev pub decreases-items-loop-first : goal.decreases-items-loop-first
@@ -42,7 +42,7 @@ decreases-items-loop-first l = l.next
 abbrev pub invariant-rules-loop-first : goal.invariant-rules-loop-first
 invariant-rules-loop-first l = record {
   left : (t : Term) → IsAt l.parsed l.fn.at t → Left l.parsed (λ b. rules (scope_of l.parsed.names b)) t l.fn.walk l.walk l.next;
-  below : l.next ≤ l.fn.at
+  below : l.next ≤ l.fn.at;
 }
 
 abbrev pub decreases-rules-loop-first : goal.decreases-rules-loop-first
@@ -60,7 +60,7 @@ decreases-list l = l.at * 4 + 4
 abbrev pub invariant-sequence-loop-first : goal.invariant-sequence-loop-first
 invariant-sequence-loop-first l = record {
   left : (t : Term) → IsAt l.parsed l.fn.at t → LeftNest l.parsed (sequence_node l.place) (case_end l.place) (λ b. expressions elsewhere (scope_of l.parsed.names b)) t l.fn.walk l.walk l.next l.cases;
-  below : l.next ≤ l.fn.at
+  below : l.next ≤ l.fn.at;
 }
 
 abbrev pub decreases-sequence-loop-first : goal.decreases-sequence-loop-first
@@ -69,7 +69,7 @@ decreases-sequence-loop-first l = l.next
 abbrev pub invariant-list-loop-first : goal.invariant-list-loop-first
 invariant-list-loop-first l = record {
   left : (t : Term) → IsAt l.parsed l.fn.at t → LeftNest l.parsed (list_node l.place) (cons_end l.place) (λ b. expressions elsewhere (scope_of l.parsed.names b)) t l.fn.walk l.walk l.next l.conses;
-  below : l.next ≤ l.fn.at
+  below : l.next ≤ l.fn.at;
 }
 
 abbrev pub decreases-list-loop-first : goal.decreases-list-loop-first
