@@ -1,4 +1,5 @@
 pub mod Atoms
+pub mod Binding
 pub mod Counting
 pub mod Declaring
 pub mod FormLemmas

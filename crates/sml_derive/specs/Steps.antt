@@ -3,6 +3,7 @@ use Rattle.std.specs.Prelude.{◌≡◌, ℕ, ◌-◌, length, take, [], ◌∷�
 use Rattle.sml_expansion.specs.declared.walk.Walk.{Walk}
 use Rattle.sml_expansion.specs.declared.mark.Mark.{Mark}
 use Rattle.sml_expansion.specs.declared.scope.Bindings.{Bindings}
+use Rattle.sml_expansion.specs.declared.scope.Bound.{Bound}
 use Rattle.sml_expansion.specs.Scoped.{oldest}
 use Rattle.sml_expansion.specs.Sources.{Source}
 use Rattle.sml_expansion.specs.Forests.{Forest, none, tree, count}
@@ -79,3 +80,8 @@ declared f w = record { made = (f w.made).1; bindings = bound_too (f w.made).0.e
 -- bindings without those between two numbers of them
 abbrev pub hidden : {A : Type 0} → ℕ → ℕ → List A → List A
 hidden from to env = take (length env - to) env ++ oldest from env
+
+-- patterns are made and written, and the variables that they bind stand behind those so far
+pub record Binds (f : Makes Pattern) (before after : Walk) (vars more : List Bound) : Type 0 where
+  pub walk : after ≡ writes_pattern f before
+  pub bound : more ≡ vars ++ (f before.made).0.vars

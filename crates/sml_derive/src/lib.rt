@@ -1,6 +1,7 @@
 //! From the parse tree to the bare tree: expressions, matches, declarations and programs.
 #![tactic(auto)]
 
+mod bindings;
 mod declarations;
 mod expressions;
 mod forms;

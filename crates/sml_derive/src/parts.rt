@@ -9,7 +9,7 @@ ghost use Rattle.sml_expansion.specs.Bindings.{type_dec, datatype_dec, exception
 ghost use Rattle.sml_expansion.specs.Types.{labels, type_of};
 ghost use Rattle.sml_expansion.specs.Expressions.{decs};
 ghost use Rattle.sml_expansion.specs.Patterns.{whole, patterns, env_of};
-ghost use Rattle.sml_derive.specs.Steps.{scope, made, writes_pattern, seen, unseen, forgotten, declared, hidden, Declares};
+ghost use Rattle.sml_derive.specs.Steps.{scope, made, writes_pattern, seen, unseen, forgotten, declared, hidden, Binds, Declares};
 
 use sml_expansion::{Bound, Parsed, Walk};
 use sml_tree::bare::Lab;
@@ -110,6 +110,18 @@ pub fn val_dec(parsed: &Parsed, walk: &mut Walk, at: u32) -> Result<u32, NoMemor
 /// A `fun` declaration.
 pub fn fun_dec(parsed: &Parsed, walk: &mut Walk, at: u32) -> Result<u32, NoMemory>
     ensures { IfOk result (λ trees. (p : Place) (vs b : Term) → IsAt parsed.now at (two node.Fun p vs b) → Declares (decs (scope parsed.now walk.old) (two node.Fun p vs b)) walk.old walk.new trees) }
+{
+    Err(NoMemory)
+}
+
+/// The patterns of a list, with the variables that they bind.
+pub fn pattern(
+    parsed: &Parsed,
+    walk: &mut Walk,
+    vars: &mut Vec<Bound>,
+    at: u32,
+) -> Result<(), NoMemory>
+    ensures { OnOk result ((t : Term) → IsAt parsed.now at t → Binds (patterns (scope parsed.now walk.old) t) walk.old walk.new vars.old.items vars.new.items) }
 {
     Err(NoMemory)
 }
