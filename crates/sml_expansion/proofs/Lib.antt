@@ -1,5 +1,10 @@
+pub mod FieldLemmas
+pub mod KindLemmas
 pub mod MakingLemmas
 pub mod MarkLemmas
+mod NameLemmas
+pub mod OnceLemmas
+pub mod OrderLemmas
 mod PartLemmas
 mod ReverseLemmas
 pub mod ScopedLemmas

@@ -1,8 +1,9 @@
 -- Binding numbers, and taking bindings back.
-use Rattle.std.proofs.Common.{◌≡◌, ◌≢◌, ◌<◌, ◌≤◌, ◌-◌, ◌+◌, Bool, true, false, length, arith, ℕ, zero, suc, List, [], ◌∷◌, ◌++◌, Option, Some, None, get_or, slice_set, reverse, map, take, drop, replicate, refl, sym, ap, ◌∙◌, subst, ◌⊎◌, inl, inr}
+use Rattle.std.proofs.Common.{◌≡◌, ◌≢◌, ◌<◌, ◌≤◌, ◌-◌, ◌+◌, Bool, true, false, length, arith, ℕ, zero, suc, List, [], ◌∷◌, ◌++◌, Option, Some, None, get_or, slice_set, reverse, map, take, drop, replicate, add-one, refl, sym, ap, ◌∙◌, subst, ◌⊎◌, inl, inr}
 use Rattle.std.specs.Prelude.{if◌then◌else◌, nat_eq}
 use Rattle.std.proofs.lemmas.Bool.{eq-eqb, eqb-true, cases_lt}
-use Rattle.std.proofs.lemmas.List.{get_or-set_same, get_or-set_other, length-append}
+use Rattle.std.proofs.lemmas.List.{get_or-set_same, get_or-set_other, length-append, append_assoc, append-nil, reverse-append, map-append, length-map, length-reverse, take-append-le}
+use Rattle.std.proofs.Math.Seq.{drop-cons}
 use Rattle.sml_expansion.proofs.ReverseLemmas.{reverse_one}
 use Rattle.sml_expansion.specs.Scoped.{latest, oldest, bound, Hide, Stands}
 
@@ -124,3 +125,58 @@ newest_before n newer env e =
     let l : length (newer ++ env) ≡ length newer + length env = length-append newer env in
     let k : length (newer ++ env) - n ≡ length newer = omega (arith, l, e) in
     ap (λ m. take m (newer ++ env)) k ∙ taken newer env
+
+-- the bindings behind so many, in order
+bound_first : {T : Type 0} (b : ℕ × T × Option T) (log : List (ℕ × T × Option T)) → bound (b ∷ log) ≡ bound log ++ (b.0, b.1) ∷ []
+bound_first b log = ap (map (λ b. (b.0, b.1))) (reverse-append (b ∷ []) log) ∙ map-append (λ b. (b.0, b.1)) (reverse log) (b ∷ [])
+
+as_many : {T : Type 0} (log : List (ℕ × T × Option T)) → length (bound log) ≡ length log
+as_many log = length-map (reverse log) (λ b. (b.0, b.1)) ∙ length-reverse log
+
+all_of : {A : Type 0} (n : ℕ) (xs : List A) → length xs ≤ n → take n xs ≡ xs
+all_of zero [] h = refl
+all_of (suc n) [] h = refl
+all_of zero (x ∷ xs) h = absurd (omega (arith, h))
+all_of (suc n) (x ∷ xs) h = let l : length xs ≤ n = omega (arith, h) in ap (λ l. x ∷ l) (all_of n xs l)
+
+nothing_of : {A : Type 0} (n : ℕ) → take {A = A} n [] ≡ []
+nothing_of zero = refl
+nothing_of (suc n) = refl
+
+reverse_map : {A B : Type 0} (f : A → B) (xs : List A) → reverse (map f (reverse xs)) ≡ map f xs
+reverse_map f [] = refl
+reverse_map f (x ∷ xs) =
+    ap (λ l. reverse (map f l)) (reverse-append (x ∷ []) xs)
+    ∙ ap reverse (map-append f (reverse xs) (x ∷ []))
+    ∙ reverse_one (map f (reverse xs)) (f x)
+    ∙ ap (λ l. f x ∷ l) (reverse_map f xs)
+
+pub behind_log : {T : Type 0} (log : List (ℕ × T × Option T)) (n : ℕ) → map (λ b. (b.0, b.1)) (drop n log) ≡ reverse (take (length (bound log) - n) (bound log))
+behind_log log zero =
+    let l : length (bound log) ≤ length (bound log) - 0 = omega arith in
+    sym (ap reverse (all_of (length (bound log) - 0) (bound log) l) ∙ reverse_map (λ b. (b.0, b.1)) log)
+behind_log [] (suc n) = ap reverse (sym (nothing_of (0 - suc n)))
+behind_log (b ∷ log) (suc n) =
+    let whole : length (bound (b ∷ log)) ≡ suc (length log) = as_many (b ∷ log) in
+    let rest : length (bound log) ≡ length log = as_many log in
+    let k : length (bound (b ∷ log)) - suc n ≡ length (bound log) - n = omega (arith, whole, rest) in
+    let few : length (bound log) - n ≤ length (bound log) = omega arith in
+    behind_log log n ∙ ap reverse (sym (ap (λ l. take (length (bound (b ∷ log)) - suc n) l) (bound_first b log) ∙ ap (λ m. take m (bound log ++ (b.0, b.1) ∷ [])) k ∙ take-append-le (length (bound log) - n) (bound log) ((b.0, b.1) ∷ []) few))
+
+-- one more is copied
+pub copied : {T : Type 0} (log : List (ℕ × T × Option T)) (i : ℕ) (newer goal : List (ℕ × T)) (d : ℕ × T × Option T) → i < length log → newer ++ map (λ b. (b.0, b.1)) (drop i log) ≡ goal
+    → (newer ++ ((get_or log i d).0, (get_or log i d).1) ∷ []) ++ map (λ b. (b.0, b.1)) (drop (i + 1) log) ≡ goal
+copied log i newer goal d h e =
+    append_assoc newer (((get_or log i d).0, (get_or log i d).1) ∷ []) (map (λ b. (b.0, b.1)) (drop (i + 1) log))
+    ∙ ap (λ k. newer ++ ((get_or log i d).0, (get_or log i d).1) ∷ map (λ b. (b.0, b.1)) (drop k log)) (add-one i)
+    ∙ ap (λ l. newer ++ map (λ b. (b.0, b.1)) l) (sym (drop-cons log i d h))
+    ∙ e
+
+pub all_copied : {T : Type 0} (log : List (ℕ × T × Option T)) (i : ℕ) (newer goal : List (ℕ × T)) → length log ≤ i → newer ++ map (λ b. (b.0, b.1)) (drop i log) ≡ goal → newer ≡ goal
+all_copied log i newer goal h e = sym (append-nil newer) ∙ ap (λ l. newer ++ map (λ b. (b.0, b.1)) l) (sym (none_behind log i h)) ∙ e
+  where
+    none_behind : {A : Type 0} (xs : List A) (i : ℕ) → length xs ≤ i → drop i xs ≡ []
+    none_behind [] zero h = refl
+    none_behind [] (suc i) h = refl
+    none_behind (x ∷ xs) zero h = absurd (omega (arith, h))
+    none_behind (x ∷ xs) (suc i) h = let l : length xs ≤ i = omega (arith, h) in none_behind xs i l

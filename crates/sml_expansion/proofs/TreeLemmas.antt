@@ -15,7 +15,7 @@ few_parts : (n : TreeNode) → nat_le (parts_of n) 4 ≡ true
 few_parts node.Val = refl
 few_parts _ = refl
 
-few : (n : TreeNode) (k : ℕ) → parts_of n ≡ suc (suc (suc (suc (suc k)))) → ⊥
+pub few : (n : TreeNode) (k : ℕ) → parts_of n ≡ suc (suc (suc (suc (suc k)))) → ⊥
 few n k e = let h : nat_le (parts_of n) 4 ≡ true = few_parts n in let l : parts_of n ≤ 4 = search rules in omega (arith, e, l)
 
 -- The roots behind more nodes, the last first, where the first of them has number m.

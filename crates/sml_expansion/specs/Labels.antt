@@ -4,6 +4,7 @@ use Rattle.std.specs.List.{list_any}
 use Rattle.smlc_base.specs.declared.place.Place.{Place}
 use Rattle.smlc_base.specs.declared.refusal.Refusal.{Refusal}
 use Rattle.smlc_base.specs.declared.refusal.Refusal.TheVariants as refusal
+use Rattle.std.specs.Borrow.{Bor}
 use Rattle.sml_tree.specs.IsBare.{lab_less}
 use Rattle.sml_tree.specs.declared.bare.Lab.{Lab}
 use Rattle.sml_tree.specs.declared.bare.Lab.TheVariants.{Num}
@@ -24,3 +25,7 @@ numbers i (suc n) = Num (pos (suc i)) ∷ numbers (suc i) n
 abbrev pub doubles : {A : Type 0} → (A → A → Bool) → List A → List (A × Place) → List Refusal
 doubles eq seen [] = []
 doubles eq seen ((x, p) ∷ items) = (if list_any (eq x) seen then refusal.BadBinding p ∷ [] else []) ++ doubles eq (x ∷ seen) items
+
+-- whether the label behind a reference comes before another
+abbrev pub before : Bor Lab → Bor Lab → Bool
+before x y = lab_less x.now y.now

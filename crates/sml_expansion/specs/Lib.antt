@@ -3,8 +3,10 @@ pub mod Bindings
 pub mod Scoped
 pub mod Clauses
 pub mod Expressions
+pub mod Fields
 pub mod Forests
 pub mod Labels
+pub mod Linking
 pub mod Makings
 pub mod Patterns
 pub mod Marks
@@ -14,5 +16,6 @@ pub mod Scopes
 pub mod Sources
 pub mod Starts
 pub mod Terms
+pub mod Kinds
 pub mod TypeVariables
 pub mod Types

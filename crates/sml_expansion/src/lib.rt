@@ -1,8 +1,8 @@
-//! From the parse tree to the bare tree: derived forms, the rules of bindings and the width.
+//! What the expansion from the parse tree to the bare tree is, and what its code stands on.
 //!
-//! It stands on `sml_prelude`, `sml_tree` and `smlc_base`. Its main contract: `link` answers the numbered nodes of the trees that its pieces spell.
+//! It stands on `sml_prelude`, `sml_tree`, `smlc_base` and `indexmap`. Its main contract: `link` answers the numbered nodes of the trees that its marks spell.
 //!
-//! `specs/` has the definition of the whole expansion (`Programs`, `expansion`), which no code answers yet. `piece` makes nodes of a list in preorder, `starts` finds the parts of a node of the parse tree, `scoped` binds names and takes bindings back, and `refusals` keeps the least refusal.
+//! `specs/` has the definition of the whole expansion (`Programs`, `expansion`). `parsed` reads the parse tree by number, `scoped` binds numbers and takes bindings back, `made` keeps what is made beside nodes with the least refusal, `walk` is the state of it all, `mark` makes numbered nodes of a list of marks, `labels` orders labels and makes fields, and `once` finds names and labels that stand twice.
 #![tactic(auto)]
 
 pub mod base;

@@ -1,6 +1,6 @@
 //! What an expansion makes beside nodes.
 
-ghost use Rattle.std.specs.Prelude.{◌≡◌, ◌∷◌, [], IfOk, suc, ◌==◌, ◌&&◌, slice_index};
+ghost use Rattle.std.specs.Prelude.{◌≡◌, ◌∷◌, [], IfOk, suc, ◌==◌, ◌&&◌, slice_index, if◌then◌else◌};
 ghost use Rattle.sml_expansion.specs.Makings.{nothing_made, Runs, breaks, new_name, new_names, new_type, new_tyvar, new_type_name, new_abbreviation};
 
 use crate::number::number;
@@ -55,7 +55,11 @@ impl Made {
     pub fn new_names(&mut self, text: &[u8], count: u32) -> Result<Vec<u32>, NoMemory>
         ensures { IfOk result (λ names. Runs (new_names text.now count) self.old names.items self.new) }
     {
-        Err(NoMemory)
+        let mut names = Vec::new(self.allocator());
+        for _ in 0..count {
+            names.push(self.new_name(text)?)?;
+        }
+        Ok(names)
     }
 
     /// A type as it is written.
@@ -99,6 +103,15 @@ impl Made {
         ensures { Runs (breaks (refusal ∷ [])) self.old tt self.new }
     {
         self.refusal = keep(self.refusal, refusal);
+    }
+
+    /// A rule is broken, if it is.
+    pub fn refuse_if(&mut self, broken: bool, refusal: Refusal)
+        ensures { Runs (breaks (if broken then refusal ∷ [] else [])) self.old tt self.new }
+    {
+        if broken {
+            self.refuse(refusal);
+        }
     }
 }
 

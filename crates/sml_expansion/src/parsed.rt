@@ -7,7 +7,7 @@ ghost use Rattle.sml_tree.specs.Parts.{parts_of};
 ghost use Rattle.sml_expansion.specs.Terms.{Term, leaf, one, two, three, four, place_at};
 ghost use Rattle.sml_expansion.specs.Sources.{IsAt, node_at};
 ghost use Rattle.sml_expansion.specs.Starts.{starts_of};
-ghost use Rattle.sml_expansion.specs.Scopes.{text_of, key_of, is_long, ident, scope_of, meaning_of, type_meaning_of};
+ghost use Rattle.sml_expansion.specs.Scopes.{text_of, equals, key_of, is_long, ident, scope_of, meaning_of, type_meaning_of};
 
 use crate::base::{base_type, base_value};
 use crate::meaning::{Meaning, TypeMeaning};
@@ -15,7 +15,7 @@ use crate::number::{number, number_at};
 use crate::scope::{Bindings, Ident};
 use crate::starts::starts;
 use sml_tree::{Tree, TreeNode};
-use smlc_base::{Name, NoMemory, Place};
+use smlc_base::{Name, Names, NoMemory, Place};
 use std::alloc::Global;
 use std::marker::Model;
 
@@ -48,7 +48,11 @@ impl<'a> Parsed<'a> {
     pub fn new(alloc: Global, tree: &'a Tree) -> Result<Parsed<'a>, NoMemory>
         ensures { IfOk result (λ parsed. parsed ≡ record { names = tree.now.names; nodes = tree.now.nodes; places = tree.now.places }) }
     {
-        Err(NoMemory)
+        Ok(Parsed {
+            tree,
+            starts_at: starts(alloc, tree.nodes.items())?,
+            equals_key: equals(&tree.names)?,
+        })
     }
 
     /// The node of a number.
@@ -197,4 +201,17 @@ fn is_long(node: TreeNode) -> bool
         TreeNode::LongTyCon(_) => true,
         _ => false,
     }
+}
+
+/// The number of `=`.
+fn equals(names: &Names) -> Result<u32, NoMemory>
+    ensures { IfOk result (λ key. key ≡ equals names.now) }
+{
+    let count = number(names.len())?;
+    for key in 0..count {
+        if names.text(Name(key)) == b"=".as_slice() {
+            return Ok(key);
+        }
+    }
+    Ok(count)
 }

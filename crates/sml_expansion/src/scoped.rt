@@ -1,6 +1,6 @@
 //! What is bound to numbers, with a log of what each binding hides.
 
-ghost use Rattle.std.specs.Prelude.{◌≡◌, ◌-◌, ◌∷◌, ◌++◌, [], OnOk, OnErr, length, drop, take};
+ghost use Rattle.std.specs.Prelude.{◌≡◌, ◌<◌, ◌^◌, ◌-◌, ◌∷◌, ◌++◌, [], ℕ, None, IfOk, OnOk, OnErr, length, drop, take, reverse, replicate};
 ghost use Rattle.sml_expansion.specs.Scoped.{latest, oldest};
 
 use smlc_base::NoMemory;
@@ -61,7 +61,12 @@ impl<T: Copy> Scoped<T> {
         ensures ok { OnOk result (self.new ≡ (key, meaning) ∷ self.old) }
         ensures err { OnErr result (self.new ≡ self.old) }
     {
-        Err(NoMemory)
+        let at = key as usize;
+        make_room(&mut self.meanings, at)?;
+        let hides = self.meanings[at];
+        self.log.push((key, meaning, hides))?;
+        self.meanings[at] = Some(meaning);
+        Ok(())
     }
 
     /// Takes back the last binding.
@@ -88,6 +93,35 @@ impl<T: Copy> Scoped<T> {
     pub fn cut(&mut self, from: usize, to: usize) -> Result<(), NoMemory>
         ensures { OnOk result (self.new ≡ take (length self.old - to) self.old ++ oldest from self.old) }
     {
-        Err(NoMemory)
+        let newer = self.behind(to)?;
+        self.undo_to(from);
+        for (key, meaning) in newer {
+            self.bind(key, meaning)?;
+        }
+        Ok(())
     }
+
+    /// The bindings behind so many, in the order in which they were bound.
+    fn behind(&self, count: usize) -> Result<Vec<(u32, T)>, NoMemory>
+        ensures { IfOk result (λ newer. newer.items ≡ reverse (take (length self.now - count) self.now)) }
+    {
+        let mut newer = Vec::new(*self.log.allocator());
+        for at in count..self.log.len() {
+            let (key, meaning, _) = self.log[at];
+            newer.push((key, meaning))?;
+        }
+        Ok(newer)
+    }
+}
+
+/// A table that has a place of this number.
+fn make_room<T: Copy>(meanings: &mut Vec<Option<T>>, at: usize) -> Result<(), NoMemory>
+    requires { at < 2 ^ 32 }
+    ensures longer { (n : ℕ) × (meanings.new.items ≡ meanings.old.items ++ replicate n None) }
+    ensures room { OnOk result (at < length meanings.new.items) }
+{
+    if at >= meanings.len() {
+        meanings.resize(2 * at + 1, None)?;
+    }
+    Ok(())
 }

@@ -3,6 +3,7 @@ pub mod ScopeLemmas
 pub mod TurnLemmas
 pub mod ReadLemmas
 pub mod Built
+pub mod Shaped
 pub mod NodeLemmas
 pub mod TreeLemmas
 pub mod ParserLemmas

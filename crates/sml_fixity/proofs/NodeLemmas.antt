@@ -8,7 +8,7 @@ use Rattle.sml_tree.specs.declared.tree_node.TreeNode.TheVariants as node
 use Rattle.sml_tree.specs.Parts.{parts_of}
 use Rattle.sml_tree.specs.Tree.{roots}
 use Rattle.sml_syntax.specs.declared.forms.Made.{Made}
-use Rattle.sml_fixity.specs.Depth.{adds, depth_of, depths, greatest}
+use Rattle.sml_tree.specs.Depth.{adds, depth_of, depths, greatest}
 use Rattle.sml_fixity.specs.Nodes.{node_of, start_of, starts_of}
 use Rattle.sml_fixity.proofs.ListLemmas.{drop_at, take_top, finished}
 

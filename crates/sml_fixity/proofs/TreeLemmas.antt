@@ -1,6 +1,7 @@
 -- What the type of trees asks holds of the nodes of a program.
-use Rattle.std.proofs.Common.{arith, ◌≡◌, ℕ, ◌+◌, ◌≤◌, ◌&&◌, Bool, true, false, nat_lt, map, length, drop, get_or, Option, Some, List, [], ◌∷◌, refl, sym, ◌∙◌, ap, subst}
+use Rattle.std.proofs.Common.{arith, ◌≡◌, ℕ, ◌+◌, ◌≤◌, ◌&&◌, Bool, true, false, cond, nat_lt, map, length, drop, get_or, Option, Some, None, List, [], ◌∷◌, refl, sym, ◌∙◌, ap, subst}
 use Rattle.std.specs.List.{position_from}
+use Rattle.std.proofs.lemmas.Bool.Decides.{nat_tests}
 use Rattle.std.proofs.lemmas.List.{length-append, length-map}
 use Rattle.smlc_base.specs.declared.place.Place.{Place}
 use Rattle.smlc_base.specs.declared.refusal.Refusal.TheVariants as refusal
@@ -17,12 +18,14 @@ use Rattle.sml_tree.specs.Tree.{all_cited as tree_cited, leaves, roots}
 use Rattle.sml_syntax.specs.declared.forms.Made.{Made}
 use Rattle.sml_syntax.specs.declared.forms.Terminal.TheVariants as tok
 use Rattle.sml_fixity.specs.Citing.{all_cite, cites}
-use Rattle.sml_fixity.specs.Depth.{depths}
+use Rattle.sml_tree.specs.Depth.{depths, greatest}
+use Rattle.sml_tree.specs.Kinds.{shaped}
 use Rattle.sml_fixity.specs.Nodes.{bare, node_of, places as places_of, start_of, starts_of}
 use Rattle.sml_fixity.specs.Parse.{IsProgram, IsRefusal, first_deep, starts, too_deep}
 use Rattle.sml_fixity.specs.Starting.{starting}
 use Rattle.sml_fixity.specs.Terminals.{of_kind, of_word, terminal_of, terminals}
 use Rattle.sml_fixity.proofs.Built.{program_built}
+use Rattle.sml_fixity.proofs.Shaped.{program_shaped}
 
 word_cites : (names texts : ℕ) (w : Reserved) → cites names texts (of_word w) ≡ true
 word_cites names texts word.KwAbstype = refl
@@ -64,6 +67,7 @@ pub record Holds (lexed : Lexed) (nodes : List TreeNode) (places : List Place) (
   pub forest : roots 0 [] nodes ≡ Some decs
   pub cited : tree_cited (length lexed.names) (length lexed.texts) nodes ≡ true
   pub few : leaves nodes ≤ 1048576
+  pub shapely : shaped [] nodes ≡ true
 
 pub begins_at : (lexed : Lexed) (made : List Made) (tokens : List Token) (places : List Place) → tokens ≡ lexed.tokens → places ≡ starts_of (places_of tokens lexed.end) lexed.end [] made → places ≡ starts lexed made
 begins_at lexed made tokens places e h = h ∙ ap (λ (t : List Token). starts_of (places_of t lexed.end) lexed.end [] made) e
@@ -81,6 +85,7 @@ tree_holds lexed made tokens nodes shown places decs program is_nodes is_tokens 
       forest = forest ∙ ap Some (sym (is_decs t.decs forest));
       cited = ap (tree_cited (length lexed.names) (length lexed.texts)) is_nodes ∙ t.cited;
       few = let u = t.few in let w = lexed.few in let z : leaves nodes ≡ leaves (bare made) = ap leaves is_nodes in omega (arith, u, w, z, size);
+      shapely = ap (shaped []) is_nodes ∙ program_shaped false (starting lexed.names) a made program;
     }
 
 -- the depths of the declarations
@@ -89,6 +94,22 @@ deep_of made nodes shown ds seen r n is_shown at_shown is_seen at_seen =
     let d : ds ≡ depths [] nodes = at_shown ∙ ap (depths []) is_shown in
     let e : r ≡ position_from (nat_lt 1024) 0 ds = at_seen ∙ ap (position_from (nat_lt 1024) 0) is_seen in
     ap (λ (o : List TreeNode). position_from (nat_lt 1024) 0 (depths [] o)) (sym n) ∙ ap (position_from (nat_lt 1024) 0) (sym d) ∙ sym e
+
+not_first : (b : Bool) (i : ℕ) (rest : Option ℕ) → cond b (Some i) rest ≡ None → (b ≡ false) × (rest ≡ None)
+not_first true i rest h = cc
+not_first false i rest h = (refl, h)
+
+-- none is too deep
+none_above : (i : ℕ) (ds : List ℕ) → position_from (nat_lt 1024) i ds ≡ None → greatest ds ≤ 1024
+none_above i [] h = omega arith
+none_above i (d ∷ ds) h =
+    let (low, rest) = not_first (nat_lt 1024 d) i (position_from (nat_lt 1024) (i + 1) ds) h in
+    let bound : d ≤ 1024 = grind (arith, nat_tests) in
+    let more = none_above (i + 1) ds rest in
+    omega (arith, bound, more)
+
+pub low_of : (made : List Made) (nodes : List TreeNode) → nodes ≡ bare made → first_deep made ≡ None → greatest (depths [] nodes) ≤ 1024
+low_of made nodes e h = none_above 0 (depths [] nodes) (ap (λ (o : List TreeNode). position_from (nat_lt 1024) 0 (depths [] o)) e ∙ h)
 
 -- the refusal of the first declaration that is too deep
 pub deep_refused : (lexed : Lexed) (made : List Made) (nodes : List TreeNode) (places : List Place) (decs : List ℕ) (k : ℕ) (r : Option ℕ) (place : Place) (seen : List Place) (numbers : List ℕ) → IsProgram lexed made → Holds lexed nodes places decs → nodes ≡ bare made → places ≡ starts lexed made → first_deep made ≡ r → r ≡ Some k → seen ≡ places → numbers ≡ decs → place ≡ get_or seen (get_or numbers k 0) lexed.end → IsRefusal lexed (refusal.TooDeep place)

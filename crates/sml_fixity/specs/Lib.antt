@@ -3,7 +3,6 @@ pub mod Statuses
 pub mod Scopes
 pub mod Turns
 pub mod Stops
-pub mod Depth
 pub mod Nodes
 pub mod Citing
 pub mod Starting

@@ -13,7 +13,7 @@ use Rattle.sml_tree.specs.Tree.{roots}
 use Rattle.sml_syntax.specs.declared.forms.Made.{Made}
 use Rattle.sml_syntax.specs.Grammar.{Begins, Parses}
 use Rattle.sml_fixity.specs.Banned.{banned_at}
-use Rattle.sml_fixity.specs.Depth.{depths}
+use Rattle.sml_tree.specs.Depth.{depths}
 use Rattle.sml_fixity.specs.Nodes.{bare, places, starts_of}
 use Rattle.sml_fixity.specs.Starting.{starting}
 use Rattle.sml_fixity.specs.Stops.{StopsAt}

@@ -2,7 +2,7 @@
 
 ghost use Rattle.std.specs.Prelude.{◌≡◌, ◌<◌, ◌+◌, ◌^◌, [], ℕ, IfOk, nat_lt, reverse};
 ghost use Rattle.std.specs.List.{position_from};
-ghost use Rattle.sml_fixity.specs.Depth.{adds as adds_of, depth_of as depth_spec, depths as depths_of, greatest as greatest_of};
+ghost use Rattle.sml_tree.specs.Depth.{adds as adds_of, depth_of as depth_spec, depths as depths_of, greatest as greatest_of};
 
 use sml_tree::TreeNode;
 use smlc_base::NoMemory;

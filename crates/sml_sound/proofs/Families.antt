@@ -6,9 +6,8 @@ use Rattle.sml_tree.specs.declared.bare.LibraryExn.TheVariants as exn
 use Rattle.sml_types.specs.declared.types.TyVar.{TyVar}
 use Rattle.sml_types.specs.Tree.{Tree, Variable, App, NoParts, Part, inst}
 use Rattle.sml_types.specs.Library.{parts, library_exn}
-use Rattle.sml_types.specs.Typing.{variables}
+use Rattle.sml_types.specs.Typing.{IsAmong, Covers, variables}
 use Rattle.sml_types.proofs.TreeFacts.{inst_same}
-use Rattle.sml_sound.specs.NeverStuck.{IsAmong, Covers}
 use Rattle.sml_sound.specs.TypedStates.{Agrees, Family, InFamily, one}
 
 pub agrees_self : (vs : List TyVar) (g : TyVar → Tree) → Agrees vs g g

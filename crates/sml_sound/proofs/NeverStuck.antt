@@ -16,11 +16,11 @@ use Rattle.sml_def.specs.Memory.{Memory, Next}
 use Rattle.sml_def.specs.State.{Control, Eval, Ret, Apply, Raise, Eq, End, Ending, Normal, Uncaught}
 use Rattle.sml_def.specs.Step.{step}
 use Rattle.sml_def.specs.Run as run
-use Rattle.sml_sound.specs.NeverStuck.{AreCovered, NeverStuck}
+use Rattle.sml_sound.specs.NeverStuck.{NeverStuck}
 use Rattle.sml_sound.specs.TypedStates.{one, ControlTy, IsExp, IsTyped}
 use Rattle.sml_sound.proofs.Safe.{Safe, step_safe}
 
-module _ (p : Bare) (t : Typing) (typing : IsTyping p t) (bare : IsBare p) (covered : AreCovered t.forms t.names) where
+module _ (p : Bare) (t : Typing) (typing : IsTyping p t) (bare : IsBare p) where
   abbrev Goes : run.State → Type 0
   Goes s = (r : run.State) × ((machine_of (run.source p)).step s ≡ Some r) × IsTyped p t r
 
@@ -41,7 +41,7 @@ module _ (p : Bare) (t : Typing) (typing : IsTyping p t) (bare : IsBare p) (cove
     where
       on : (c : Control) → s.control.control ≡ c → ControlTy p t h.sig c → ((e : Ending) → c ≡ End e → ⊥) → Goes s
       on c e hc never =
-          acts s (step p (memory_of s) s.control.control) (subst (λ c. Safe p t s.store (step p (memory_of s) c)) (sym e) (step_safe p t typing bare covered (memory_of s) h.sig h.store h.descend c hc never))
+          acts s (step p (memory_of s) s.control.control) (subst (λ c. Safe p t s.store (step p (memory_of s) c)) (sym e) (step_safe p t typing bare (memory_of s) h.sig h.store h.descend c hc never))
 
       go : (c : Control) → s.control.control ≡ c → ControlTy p t h.sig c → ((e : Ending) × (s.control.control ≡ End e)) ⊎ Goes s
       go (End e) q hc = inl (e, q)
@@ -100,5 +100,5 @@ module _ (p : Bare) (t : Typing) (typing : IsTyping p t) (bare : IsBare p) (cove
   }
 
 pub never_stuck : NeverStuck
-never_stuck p bare t typing covered input n =
-    not_stuck p t typing bare covered (state_at (machine_of (run.source p)) (run.start input) n) (all_typed p t typing bare covered (run.start input) (start_typed p t typing bare covered input) n)
+never_stuck p bare t typing input n =
+    not_stuck p t typing bare (state_at (machine_of (run.source p)) (run.start input) n) (all_typed p t typing bare (run.start input) (start_typed p t typing bare input) n)

@@ -1,6 +1,7 @@
 -- What a non-expansive node is made of, and what is new in a program's datatypes.
-use Rattle.std.proofs.Common.{◌≡◌, ◌≢◌, ◌<◌, ℕ, arith, ⊎_elim, zero, suc, Bool, true, false, List, [], ◌∷◌, ◌++◌, length, Option, Some, None, refl, sym, ap, ◌∙◌, subst}
-use Rattle.std.specs.Prelude.{slice_get, flat_map, map, nat_eq, cond, ◌||◌, ◌+◌}
+use Rattle.std.proofs.Common.{◌≡◌, ◌≢◌, ◌<◌, ℕ, arith, ⊎_elim, inl, zero, suc, Bool, true, false, List, [], ◌∷◌, ◌++◌, length, Option, Some, None, refl, sym, ap, ◌∙◌, subst}
+use Rattle.std.specs.Prelude.{slice_get, flat_map, map, nat_eq, cond, unwrap_or, ◌||◌, ◌+◌}
+use Rattle.std.specs.List.{AllByRecursion}
 use Rattle.std.specs.Option.{is_some}
 use Rattle.std.proofs.lemmas.Bool.{eqb-true, eq-eqb}
 use Rattle.sml_tree.specs.declared.bare.Bare.{Bare}
@@ -9,23 +10,22 @@ use Rattle.sml_tree.specs.declared.bare.Node.TheVariants as node
 use Rattle.sml_tree.specs.declared.bare.Con.{Con}
 use Rattle.sml_tree.specs.declared.bare.Field.{Field}
 use Rattle.sml_tree.specs.declared.bare.DatBinding.{DatBinding}
-use Rattle.sml_tree.specs.IsBare.{cons_of, declared_by}
+use Rattle.sml_tree.specs.IsBare.{base_cons, cons_of, declared_by}
 use Rattle.sml_tree.proofs.Members.{or_right}
 use Rattle.simulation.proofs.Lists.{get_split}
 use Rattle.sml_types.specs.declared.types.Ty.{Ty}
 use Rattle.sml_types.specs.declared.types.TyVar.{TyVar}
 use Rattle.sml_types.specs.declared.tables.TypeName.{TypeName}
 use Rattle.sml_types.specs.declared.tables.Equality.TheVariants.{Never, Always, Parts}
-use Rattle.sml_types.specs.Tree.{Tree}
+use Rattle.sml_types.specs.Tree.{Tree, Variable}
 use Rattle.sml_types.specs.Forms.{tree}
 use Rattle.sml_types.specs.Poly.{is_in}
-use Rattle.sml_types.specs.Library.{arg_of, ref_number}
+use Rattle.sml_types.specs.Library.{BeginsWithLibrary, NameType, arg_of, library, list_ty, tuple, ref_number}
 use Rattle.sml_types.specs.Equality.{choose, IsGreatest}
 use Rattle.sml_types.specs.NonExpansive.{AreNonExpansive, is_atomic, is_ref, field_nodes, plain_none, plain_atom, plain_record, plain_applied, plain_typed}
-use Rattle.sml_types.specs.Typing.{Typing, IsTyping, type_numbers}
-use Rattle.sml_sound.specs.NeverStuck.{Covers, AreCovered}
+use Rattle.sml_types.specs.Typing.{Typing, IsTyping, IsDatBinding, Covers, CoversArgument, type_numbers}
 use Rattle.sml_sound.specs.TypedStates.{IsCon}
-use Rattle.sml_sound.proofs.Tables.{row_at}
+use Rattle.sml_sound.proofs.Tables.{library_has, row_at}
 
 abbrev pub is_plain : Node → Bool
 is_plain (node.Case e rules) = false
@@ -100,14 +100,93 @@ module _ (nodes : List Node) where
   plain_first i is (plain_typed j x2 ty2 g b r) = (plain_typed i x2 ty2 g b plain_none, r)
 
 module _ (p : Bare) (t : Typing) where
-  pub con_covers : AreCovered t.forms t.names → (n k : ℕ) (ps : List TyVar) (a : Tree) → IsCon p t n k ps (Some a) → Covers ps a
-  con_covers h n k ps a c = go c.con.arg refl c.is
+  -- ---- In a constructor's argument stand the parameters of its type alone
+
+  abbrev ArgumentCovered : List TyVar → Option Tree → Type 0
+  ArgumentCovered vs None = Unit {0}
+  ArgumentCovered vs (Some a) = Covers vs a
+
+  abbrev RowCovered : NameType → Type 0
+  RowCovered r = AllByRecursion (λ c. ArgumentCovered r.params c.arg) r.cons
+
+  library_covered : (a : TyVar) → AllByRecursion RowCovered (library a)
+  library_covered a =
+      let none : Unit {0} = tt in
+      let list : Covers (a ∷ []) (tuple (Variable a ∷ list_ty (Variable a) ∷ [])) = (inl refl, ((inl refl, none), none)) in
+      (none, (none, (none, (none, ((none, (none, none)), ((none, (list, none)), ((none, (inl refl, none)), ((none, (none, (none, none))), ((inl refl, none), (none, none))))))))))
+
+  all_at : {A : Type 0} (P : A → Type 0) (xs : List A) (i : ℕ) (x : A) → AllByRecursion P xs → slice_get xs i ≡ Some x → P x
+  all_at P [] i x h e = cc
+  all_at P (y ∷ xs) zero x h e = let same : y ≡ x = cc in subst P same h.0
+  all_at P (y ∷ xs) (suc i) x h e = all_at P xs i x h.1 e
+
+  -- a type name of the library
+  base_covers : (lib : BeginsWithLibrary t.forms t.names) (n k : ℕ) (ps : List TyVar) (a : Tree) (r : NameType) → slice_get (library lib.param) n ≡ Some r → IsCon p t n k ps (Some a) → Covers ps a
+  base_covers lib n k ps a r e h =
+      let row = row_at p t lib n r e in
+      let con = library_has p t lib n k r ps (Some a) e h in
+      let same : h.row ≡ row.0 = (let x : Some h.row ≡ Some row.0 = sym h.named ∙ row.1 in cc) in
+      let params : r.params ≡ ps = ap (λ (r : NameType). r.params) (sym row.2) ∙ ap (λ (w : TypeName). w.params) (sym same) ∙ h.params in
+      subst (λ vs. Covers vs a) params (subst (ArgumentCovered r.params) con.2 (all_at (λ c. ArgumentCovered r.params c.arg) r.cons k con.0 (all_at RowCovered (library lib.param) n r (library_covered lib.param) e) con.1))
+
+  -- a type name of the program
+  dat_covers : (n k : ℕ) (ps : List TyVar) (a : Tree) (d : DatBinding) → d.type_name ≡ n → IsDatBinding p t d → IsCon p t n k ps (Some a) → Covers ps a
+  dat_covers n k ps a d e b h = go h.con.arg refl h.is
     where
-      go : (o : Option Ty) → c.con.arg ≡ o → arg_of t.forms o ≡ Some a → Covers ps a
-      go None e d = cc
-      go (Some x) e d =
-          let same : tree t.forms x.0 ≡ a = cc in
-          subst (λ vs. Covers vs a) c.params (subst (Covers c.row.params) same (h n k c.row c.con x c.named c.numbered e))
+      go : (o : Option Ty) → h.con.arg ≡ o → arg_of t.forms o ≡ Some a → Covers ps a
+      go None q r = cc
+      go (Some x) q r =
+          let row : b.row ≡ h.row = (let y : Some b.row ≡ Some h.row = sym b.named ∙ ap (slice_get t.names) e ∙ h.named in cc) in
+          let params : b.row.params ≡ ps = ap (λ (w : TypeName). w.params) row ∙ h.params in
+          let arg : tree t.forms x.0 ≡ a = cc in
+          let there : slice_get b.row.cons k ≡ Some h.con = ap (λ (w : TypeName). slice_get w.cons k) row ∙ h.numbered in
+          let all : CoversArgument p t b.row.params h.con.arg = all_at (λ c. CoversArgument p t b.row.params c.arg) b.row.cons k h.con b.covers there in
+          let some : CoversArgument p t b.row.params (Some x) = subst (CoversArgument p t b.row.params) q all in
+          subst (λ vs. Covers vs a) params (subst (Covers b.row.params) arg some)
+
+  -- the binding of a type name that has a constructor here
+  binding_of : (bindings : List DatBinding) (n k : ℕ) (takes : Bool) → AllByRecursion (IsDatBinding p t) bindings → slice_get (declared_by n (node.Datatype bindings)) k ≡ Some takes → (d : DatBinding) × (d.type_name ≡ n) × IsDatBinding p t d
+  binding_of [] n k takes h e = cc
+  binding_of (d ∷ bindings) n k takes h e = go (nat_eq d.type_name n) refl e (binding_of bindings n k takes h.1)
+    where
+      go : (b : Bool) → nat_eq d.type_name n ≡ b → slice_get (cond b (map (λ c. is_some c.arg) d.cons) [] ++ declared_by n (node.Datatype bindings)) k ≡ Some takes → (slice_get (declared_by n (node.Datatype bindings)) k ≡ Some takes → (d : DatBinding) × (d.type_name ≡ n) × IsDatBinding p t d) → (d : DatBinding) × (d.type_name ≡ n) × IsDatBinding p t d
+      go true q g rest = (d, eqb-true d.type_name n q, h.0)
+      go false q g rest = rest g
+
+  declaration_of : (nodes : List Node) → ((i : ℕ) (bindings : List DatBinding) → slice_get nodes i ≡ Some (node.Datatype bindings) → AllByRecursion (IsDatBinding p t) bindings) → (n k : ℕ) (takes : Bool) → slice_get (flat_map (declared_by n) nodes) k ≡ Some takes → (d : DatBinding) × (d.type_name ≡ n) × IsDatBinding p t d
+  declaration_of [] h n k takes e = cc
+  declaration_of (q ∷ nodes) h n k takes e =
+      ⊎_elim (here q h) (λ s. declaration_of nodes (λ i. h (suc i)) n s.0 takes s.2) (get_split (declared_by n q) (flat_map (declared_by n) nodes) k takes e)
+    where
+      here : (q : Node) → ((i : ℕ) (bindings : List DatBinding) → slice_get (q ∷ nodes) i ≡ Some (node.Datatype bindings) → AllByRecursion (IsDatBinding p t) bindings) → slice_get (declared_by n q) k ≡ Some takes → (d : DatBinding) × (d.type_name ≡ n) × IsDatBinding p t d
+      here (node.Datatype bindings) h e = binding_of bindings n k takes (h 0 bindings refl) e
+      here _ h e = cc
+
+  get_lt : {A : Type 0} (xs : List A) (i : ℕ) (x : A) → slice_get xs i ≡ Some x → i < length xs
+  get_lt [] i x e = cc
+  get_lt (y ∷ xs) zero x e = omega arith
+  get_lt (y ∷ xs) (suc i) x e = let h = get_lt xs i x e in omega arith
+
+  pub con_covers : IsTyping p t → (n k : ℕ) (takes : Bool) (ps : List TyVar) (a : Tree) → slice_get (cons_of p.nodes n) k ≡ Some takes → IsCon p t n k ps (Some a) → Covers ps a
+  con_covers typing n k takes ps a stands h =
+      ⊎_elim (λ e. in_library n e h) in_program (get_split (unwrap_or (slice_get base_cons n) []) (flat_map (declared_by n) p.nodes) k takes stands)
+    where
+      in_library : (n : ℕ) → slice_get (unwrap_or (slice_get base_cons n) []) k ≡ Some takes → IsCon p t n k ps (Some a) → Covers ps a
+      in_library zero e h = base_covers typing.library 0 k ps a _ refl h
+      in_library (suc zero) e h = base_covers typing.library 1 k ps a _ refl h
+      in_library (suc (suc zero)) e h = base_covers typing.library 2 k ps a _ refl h
+      in_library (suc (suc (suc zero))) e h = base_covers typing.library 3 k ps a _ refl h
+      in_library (suc (suc (suc (suc zero)))) e h = base_covers typing.library 4 k ps a _ refl h
+      in_library (suc (suc (suc (suc (suc zero))))) e h = base_covers typing.library 5 k ps a _ refl h
+      in_library (suc (suc (suc (suc (suc (suc zero)))))) e h = base_covers typing.library 6 k ps a _ refl h
+      in_library (suc (suc (suc (suc (suc (suc (suc zero))))))) e h = base_covers typing.library 7 k ps a _ refl h
+      in_library (suc (suc (suc (suc (suc (suc (suc (suc zero)))))))) e h = base_covers typing.library 8 k ps a _ refl h
+      in_library (suc (suc (suc (suc (suc (suc (suc (suc (suc n))))))))) e h = cc
+
+      in_program : ((j : ℕ) × (k ≡ length (unwrap_or (slice_get base_cons n) []) + j) × (slice_get (flat_map (declared_by n) p.nodes) j ≡ Some takes)) → Covers ps a
+      in_program s =
+          let d = declaration_of p.nodes (λ i bindings g. (typing.rules i (node.Datatype bindings) (get_lt p.nodes i (node.Datatype bindings) g) g).0) n s.0 takes s.2 in
+          dat_covers n k ps a d.0 d.1 d.2 h
 
   -- ---- No datatype of the program is the library's `ref`
 
@@ -148,11 +227,6 @@ module _ (p : Bare) (t : Typing) where
       here : (n : Node) → ((i : ℕ) (bindings : List DatBinding) → slice_get (n ∷ nodes) i ≡ Some (node.Datatype bindings) → is_in (type_numbers bindings) ref_number ≡ true → ⊥) → slice_get (declared_by ref_number n) k ≡ Some takes → ⊥
       here (node.Datatype bindings) h e = h 0 bindings refl (declares bindings k takes e)
       here _ h e = cc
-
-  get_lt : {A : Type 0} (xs : List A) (i : ℕ) (x : A) → slice_get xs i ≡ Some x → i < length xs
-  get_lt [] i x e = cc
-  get_lt (y ∷ xs) zero x e = omega arith
-  get_lt (y ∷ xs) (suc i) x e = let h = get_lt xs i x e in omega arith
 
   -- a constructor that stands is none of the library's `ref`
   pub new_con : IsTyping p t → (n k : ℕ) (takes : Bool) → slice_get (cons_of p.nodes n) k ≡ Some takes → n ≢ ref_number

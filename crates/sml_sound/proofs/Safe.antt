@@ -100,7 +100,6 @@ use Rattle.sml_def.specs.State.{Value, Number, Letter, Nothing, Tag, Constant, B
 use Rattle.sml_def.specs.Match.{fits, first_rule}
 use Rattle.sml_def.specs.Step.{env_of, env_of_fields, env_of_rest, by_rule, by_label, eval_fields, declare, function_of, group_env, closures, closure_of}
 use Rattle.sml_def.specs.Run as run
-use Rattle.sml_sound.specs.NeverStuck.{AreCovered}
 use Rattle.sml_sound.specs.TypedStates.{IsBelow, HaveTys, AreExps, IsRow, BeforeTy, free_of_rest, Agrees, Family, family, one, Entry, Holds, Takes, HasTy, HasScheme, EnvTy, EnvTys, Accepts, TakesAll, TakesAny, Fits, IsExp, IsFixed, AreRules, FrameTy, BlockTy, StoreTy, Descends, AllDescend, TakesNode, ControlTy, free_of_match}
 use Rattle.sml_sound.proofs.Families.{inst_parts, agrees_self, single}
 use Rattle.sml_sound.proofs.Grow.{store_up, block_up, store_len, store_append, envs_up, accepts_up}
@@ -142,7 +141,7 @@ abbrev pub Safe : Bare → Typing → List Block → Next → Type 0
 Safe p t blocks None = ⊥
 Safe p t blocks (Some a) = IsSafeAct p t blocks a
 
-module _ (p : Bare) (t : Typing) (typing : IsTyping p t) (bare : IsBare p) (covered : AreCovered t.forms t.names) (m : Memory) (sig : List Entry) (store : StoreTy p t sig sig m.store) (descend : AllDescend 0 m.store) where
+module _ (p : Bare) (t : Typing) (typing : IsTyping p t) (bare : IsBare p) (m : Memory) (sig : List Entry) (store : StoreTy p t sig sig m.store) (descend : AllDescend 0 m.store) where
   pub going_safe : (c : Control) → ControlTy p t sig c → Safe p t m.store (going m c)
   going_safe c h = record { after = m.store; done = refl; sig = sig; store = store; descend = descend; control = h }
 
@@ -600,7 +599,7 @@ module _ (p : Bare) (t : Typing) (typing : IsTyping p t) (bare : IsBare p) (cove
   con_safe : (i : ℕ) (c : Context) (q : Con) (env : Env) (k : Option Address) (f : Family) → slice_get p.nodes i ≡ Some (node.Constructor q) → HasConTy p t c q (t.types i) → f.ty ≡ t.types i → EnvTys p t sig f (exception_of q) env → Accepts p t sig k (TakesNode p t i f) → Safe p t m.store (con_value env q >>= λ v. going m (Ret v k))
   con_safe i c (con.Data n j true) env k f ei r e he hk =
       let d = data_takes p t n j r.0 r.1 in
-      let mk : IsMaking p t j (record { name = n; params = d.0; arg = d.1 }) = record { is_con = d.2; covers = con_covers p t covered n j d.0 d.1 d.2; new = new_con p t typing n j true (stands_at i (node.Constructor (con.Data n j true)) ei).0 } in
+      let mk : IsMaking p t j (record { name = n; params = d.0; arg = d.1 }) = record { is_con = d.2; covers = con_covers p t typing n j true d.0 d.1 (stands_at i (node.Constructor (con.Data n j true)) ei).0 d.2; new = new_con p t typing n j true (stands_at i (node.Constructor (con.Data n j true)) ei).0 } in
       ret_con i (Maker j) k f e
       (λ h a. (record { name = n; params = d.0; arg = d.1 }, (λ w. inst h (r.2.at w)), mk, ap (inst h) (r.2.is ∙ ap (λ (s : Poly). inst r.2.at s.body) d.3) ∙ inst_inst h r.2.at (arrow d.1 (data_ty p t n d.0))))
       (λ n2 c2 e2. (j, refl)) hk

@@ -20,10 +20,9 @@ use Rattle.sml_types.specs.Poly.{Context, has_num, with_tyvars}
 use Rattle.sml_types.specs.Library.{parts, name_ty, arrow, unit_ty, int_ty, char_ty, string_ty, exn_ty, bool_ty, ref_ty, ref_number, arg_of, library_exn, primitive_poly}
 use Rattle.sml_types.specs.TypeExps.{IsRecord}
 use Rattle.sml_types.specs.NonExpansive.{AreNonExpansive, field_nodes}
-use Rattle.sml_types.specs.Typing.{Typing, variables, fields_of, IsMatch, IsBinding}
+use Rattle.sml_types.specs.Typing.{Typing, Covers, variables, fields_of, IsMatch, IsBinding}
 use Rattle.sml_def.specs.State.{Value, Number, Letter, Nothing, Tag, Constant, Builtin, Maker, RefMaker, Library, At, Env, Address, Awaits, FunctionPart, ArgumentPart, FieldPart, Subject, RightSide, RaisePart, Guarded, Block, Tuple, Applied, Text, Cell, ExnName, Packet, Closure, Frame, Pending, Control, Eval, Ret, Apply, Raise, Eq, End, look}
 use Rattle.sml_def.specs.Run.{State}
-use Rattle.sml_sound.specs.NeverStuck.{Covers}
 
 -- ---- Families of types
 

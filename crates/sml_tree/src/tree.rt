@@ -1,6 +1,8 @@
 //! The parse tree of a program.
 
 ghost use Rattle.std.specs.Prelude.{◌≡◌, ◌≤◌, length, true, Some, []};
+ghost use Rattle.sml_tree.specs.Depth.{depths, greatest};
+ghost use Rattle.sml_tree.specs.Kinds.{shaped};
 ghost use Rattle.sml_tree.specs.Tree.{all_cited, leaves, roots};
 
 use crate::tree_node::TreeNode;
@@ -20,4 +22,6 @@ pub struct Tree {
     ghost forest: { roots 0 [] nodes ≡ Some decs },
     ghost cited: { all_cited (length names) (length texts) nodes ≡ true },
     ghost few: { leaves nodes ≤ 1048576 },
+    ghost shaped: { shaped [] nodes ≡ true },
+    ghost shallow: { greatest (depths [] nodes) ≤ 1024 },
 }

@@ -52,7 +52,7 @@ module _ (lengths text : List ℕ) (s : IsStraight lengths text) where
       let b2 = length-append (padded 4096 text) (padded 4096 [] ++ []) in
       let b3 : length (padded 4096 [] ++ []) ≡ 0 = refl in
       let t = length-table_bytes i.entries in
-      let p : length (padded 8 i.plan) ≡ 0 = refl in
+      let p : length (padded 8 i.plan) ≡ 24 = refl in
       let n : length (padded 8 names) ≡ 40 = refl in
       let A = padded 4096 (headers i) in
       let B = segment_bytes i.segments in

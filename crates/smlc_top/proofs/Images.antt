@@ -7,10 +7,11 @@ use Rattle.elf_static.specs.declared.image.Segment.{Segment}
 use Rattle.elf_static.specs.Layout.{round_up, text_segment, read_only_segment, writable_segment}
 use Rattle.elf_static.specs.Table.{no_entries}
 use Rattle.smlc_top.specs.Code.{bytes_of, whole_code, pieces_code, data_at, image_of}
+use Rattle.smlc_top.specs.Texts.{plan_text}
 use Rattle.smlc_top.proofs.Ends.{data-round_up}
 
 abbrev with_segments : Segment → Segment → Segment → Image
-with_segments a b c = record { entry = 65536; segments = a ∷ b ∷ c ∷ []; entries = no_entries; plan = [] }
+with_segments a b c = record { entry = 65536; segments = a ∷ b ∷ c ∷ []; entries = no_entries; plan = plan_text }
 
 pub image_is : (lengths text code : List ℕ) (base behind : ℕ) (a b c : Segment) → code ≡ bytes_of (ins Lui 11 0 0 (pos base) ∷ pieces_code lengths) → base ≡ data_at lengths → behind ≡ base + length text →
     a ≡ record { address = 65536; flags = 5; bytes = code; size = length code } → b ≡ record { address = base; flags = 4; bytes = text; size = length text } →

@@ -43,10 +43,10 @@ no_job words a asks (Some j) h = tt
 -- ---- `run`
 
 run_concludes : (text : List ℕ) (image : Image) (input : Option (List ℕ)) (steps : ℕ) (m : Mend) (w e : List ℕ) → Compiles text image → IsRun image input steps m w e → Concludes m text w e
-run_concludes text image input steps m w e compiles r = prints_concludes image text (64 * (1 + length text)) input m r.count r.cuts w e compiles r.ends r.wrote r.wrote_err
+run_concludes text image input steps m w e compiles r = prints_concludes image text (64 * (1 + length text)) input m r.count r.cuts w e compiles.prints r.ends r.wrote r.wrote_err
 
 midway_concludes : (text : List ℕ) (image : Image) (input : Option (List ℕ)) (w e : List ℕ) → Compiles text image → IsMidway image input w e → Concludes Runs text w e
-midway_concludes text image input w e compiles r = prints_concludes image text (64 * (1 + length text)) input Runs r.count r.cuts w e compiles r.goes_on r.wrote r.wrote_err
+midway_concludes text image input w e compiles r = prints_concludes image text (64 * (1 + length text)) input Runs r.count r.cuts w e compiles.prints r.goes_on r.wrote r.wrote_err
 
 module _ (name : List ℕ) (told files : Option Files) (steps : ℕ) (file text : List ℕ) (image : Image) (t t' : Tally) (input : Option (List ℕ)) (w e : List ℕ)
     (held : IsHeld told name file) (keeps : KeepsFiles told files) (means : Means file text) (compiles : Compiles text image) where

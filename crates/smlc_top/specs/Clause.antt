@@ -8,13 +8,14 @@ use Rattle.elf_static.specs.declared.image.Image.{Image}
 use Rattle.elf_static.specs.declared.error.ElfKind.{ElfKind}
 use Rattle.elf_static.specs.declared.error.ElfError.TheVariants as elf
 use Rattle.elf_static.specs.Reading.{meaning_of}
+use Rattle.elf_static.specs.Table.{no_entries}
 use Rattle.rv_machine.specs.Run.{Cut, Mend, Runs, Exited, Trapped, behaviour}
 use Rattle.smlc_top.specs.declared.outcome.Outcome.{Outcome}
 use Rattle.smlc_top.specs.declared.outcome.Outcome.TheVariants as outcome
 use Rattle.smlc_top.specs.Form.{lines_of, LinesMean, StopsAt}
 use Rattle.smlc_top.specs.Job.{Job, RunFile, CompileFile, ExecFile, IsAsked, file_of, target_of}
 use Rattle.smlc_top.specs.Prints.{begun, Prints}
-use Rattle.smlc_top.specs.Texts.{refusal_line, usage_line, memory_line, store_line, input_line, out_line, steps_line, exit_line, elf_line, trap_line}
+use Rattle.smlc_top.specs.Texts.{plan_text, refusal_line, usage_line, memory_line, store_line, input_line, out_line, steps_line, exit_line, elf_line, trap_line}
 use Rattle.smlc_top.specs.Write.{IsPrefix}
 use Rattle.smlc_top.specs.Outcome.{line_of, status_of}
 
@@ -34,9 +35,11 @@ IsRefused file (TooLong place) = (most < length file) × (place ≡ record { fil
 IsRefused file (NotInSubset place Later) = (length file ≤ most) × ((n : ℕ) × StopsAt n (lines_of file) × (place ≡ record { file = 1; line = suc n; col = 1 }))
 IsRefused file _ = ⊥
 
--- the image prints the text, and does at most 64 instructions for each of its bytes, and 64 more
-abbrev pub Compiles : List ℕ → Image → Type 0
-Compiles text image = Prints image text (64 * (1 + length text))
+-- The image prints the text, and does at most 64 instructions for each of its bytes, and 64 more. It has no entries, and its plan says so much.
+pub record Compiles (text : List ℕ) (image : Image) : Type 0 where
+  pub prints : Prints image text (64 * (1 + length text))
+  pub entries : image.entries ≡ no_entries
+  pub plan : image.plan ≡ plan_text
 
 -- ---- the store
 

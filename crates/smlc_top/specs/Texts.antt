@@ -13,6 +13,10 @@ use Rattle.elf_static.specs.Kinds.{word_of as word_of_kind}
 abbrev pub newline : List ℕ
 newline = 10 ∷ []
 
+-- the plan of straight code: no closure outlives what it is for, and no value is kept in memory for want of a register
+abbrev pub plan_text : List ℕ
+plan_text = codes "factor 1" ++ newline ++ codes "spill 0" ++ newline
+
 -- FILE:LINE:COL:
 abbrev pub place_text : List ℕ → Place → List ℕ
 place_text name place = name ++ codes ":" ++ decimal place.line ++ codes ":" ++ decimal place.col ++ codes ":"

@@ -8,12 +8,16 @@ ghost use Rattle.elf_static.specs.Layout.{IsLaidOut, round_up};
 ghost use Rattle.elf_static.specs.Table.{no_entries};
 ghost use Rattle.smlc_top.specs.Code.{bytes_of, piece_code, pieces_code, loop_code, exit_code, low_part, image_of, IsStraight};
 ghost use Rattle.smlc_top.specs.Prints.{Prints};
+ghost use Rattle.smlc_top.specs.Texts.{plan_text};
 
 use crate::reader::Printed;
 use elf_static::{Entries, Image, Segment};
 use rv_isa::{Ins, Op, encode};
 use smlc_base::{NoMemory, Row};
 use std::alloc::Global;
+
+/// The plan of straight code.
+const PLAN: &[u8] = b"factor 1\nspill 0\n";
 
 /// Puts an instruction's word behind the code.
 fn put(code: &mut Vec<u8>, ins: Ins) -> Result<(), NoMemory>
@@ -188,7 +192,7 @@ fn image_with(
     read_only: Segment,
     writable: Segment,
 ) -> Result<Image, NoMemory>
-    ensures { IfOk result (λ image. image ≡ record { entry = 65536; segments = text ∷ read_only ∷ writable ∷ []; entries = no_entries; plan = [] }) }
+    ensures { IfOk result (λ image. image ≡ record { entry = 65536; segments = text ∷ read_only ∷ writable ∷ []; entries = no_entries; plan = plan_text }) }
 {
     let mut segments = Row::new(alloc);
     segments.push(text)?;
@@ -198,6 +202,6 @@ fn image_with(
         entry: 0x1_0000,
         segments,
         entries: Entries::none(alloc),
-        plan: Row::new(alloc),
+        plan: Row::from_vec(Vec::from_slice(alloc, PLAN)?),
     })
 }

@@ -1,5 +1,5 @@
 use Rattle.std.proofs.Common.{arith, ◌≤◌, ◌-◌, reverse, take, length}
-use Rattle.sml_fixity.specs.Depth.{greatest}
+use Rattle.sml_tree.specs.Depth.{greatest}
 use Rattle.sml_fixity.proofs.NodeLemmas.{head_low}
 use Rattle.sml_fixity.proofs.depth.depth_of.Goals as goal
 

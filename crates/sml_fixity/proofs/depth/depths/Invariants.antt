@@ -1,5 +1,5 @@
 use Rattle.std.proofs.Common.{◌≡◌, ◌≤◌, ◌*◌, [], drop, reverse}
-use Rattle.sml_fixity.specs.Depth.{depths, greatest}
+use Rattle.sml_tree.specs.Depth.{depths, greatest}
 use Rattle.sml_fixity.proofs.depth.depths.Given as goal
 
 abbrev pub invariant-loop-node : goal.invariant-loop-node

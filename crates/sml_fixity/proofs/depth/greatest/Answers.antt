@@ -1,6 +1,6 @@
 use Rattle.std.proofs.Common.{arith, ◌≡◌, ap, drop, reverse, []}
 use Rattle.std.proofs.Math.ListN.{drop_of_length-le}
-use Rattle.sml_fixity.specs.Depth.{greatest}
+use Rattle.sml_tree.specs.Depth.{greatest}
 use Rattle.sml_fixity.proofs.NodeLemmas.{greatest_reverse}
 use Rattle.sml_fixity.proofs.depth.greatest.Goals as goal
 

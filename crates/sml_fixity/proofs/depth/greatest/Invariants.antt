@@ -1,5 +1,5 @@
 use Rattle.std.proofs.Common.{◌≡◌, max, drop}
-use Rattle.sml_fixity.specs.Depth.{greatest}
+use Rattle.sml_tree.specs.Depth.{greatest}
 use Rattle.sml_fixity.proofs.depth.greatest.Given as goal
 
 abbrev pub invariant-loop-depth : goal.invariant-loop-depth

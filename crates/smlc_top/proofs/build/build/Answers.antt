@@ -1,6 +1,7 @@
 use Rattle.std.proofs.Common.{◌≡◌, ℕ, suc, arith, ap, ◌∙◌, add-one}
 use Rattle.smlc_base.specs.declared.refusal.Refusal.TheVariants.{NotInSubset, TooLong}
 use Rattle.smlc_base.specs.declared.refusal.Banned.TheVariants.{Later}
+use Rattle.elf_static.specs.declared.image.Image.{Image}
 use Rattle.smlc_top.proofs.Bounds.{written-short}
 use Rattle.smlc_top.proofs.Builds.{refused_built}
 use Rattle.smlc_top.proofs.build.build.Goals as goal
@@ -22,7 +23,11 @@ returns-in-Ok-write_elf c =
       record {
         image = c.in-Ok.image;
         read = c.in-Ok-write_elf.ensures.read;
-        compiles = c.in-Ok.ensures.prints;
+        compiles = record {
+          prints = c.in-Ok.ensures.prints;
+          entries = ap (λ (i : Image). i.entries) c.in-Ok.ensures.image;
+          plan = ap (λ (i : Image). i.plan) c.in-Ok.ensures.image;
+        };
         bounded = rw (c.in-Ok-write_elf.ensures.written, c.in-Ok.ensures.image) (written-short c.in-Ok-Text.printed.lengths.items c.in-Ok-Text.printed.text.items (record { sums = k.1; positive = k.3; bounded = omega (arith, k.2) }));
       },
     )
