@@ -1,0 +1,10 @@
+pub mod Atoms
+pub mod Binding
+pub mod Counting
+pub mod Declaring
+pub mod FormLemmas
+pub mod Nests
+pub mod Schemas
+pub mod Sequences
+pub mod Spines
+pub mod Times
