@@ -1,6 +1,7 @@
 -- Patterns expand to patterns.
 use Rattle.std.proofs.Common.{◌≡◌, ℕ, ◌+◌, true, false, List, [], ◌∷◌, ◌++◌, map, length, refl, sym, subst, Option, Some, None, arith, if◌then◌else◌}
-use Rattle.std.specs.Prelude.{Bool}
+use Rattle.std.specs.Prelude.{Bool, ◌==◌}
+use Rattle.std.proofs.lemmas.Bool.{eq-eqb}
 use Rattle.std.proofs.lemmas.List.{length-append, length-map, map-append}
 use Rattle.smlc_base.specs.declared.place.Place.{Place}
 use Rattle.smlc_base.specs.declared.refusal.Refusal.{Refusal}
@@ -11,19 +12,19 @@ use Rattle.sml_expansion.specs.declared.meaning.Meaning.{Meaning}
 use Rattle.sml_expansion.specs.declared.meaning.Meaning.TheVariants.{Variable, Constructor, Builtin}
 use Rattle.sml_expansion.specs.declared.scope.Ident.{Ident}
 use Rattle.sml_expansion.specs.declared.scope.Bound.{Bound}
-use Rattle.sml_expansion.specs.Forests.{Forest, ◌&◌}
+use Rattle.sml_expansion.specs.Forests.{Forest, count, ◌&◌}
 use Rattle.sml_expansion.specs.Terms.{Term}
 use Rattle.sml_expansion.specs.Labels.{lab_eq, doubles}
 use Rattle.sml_expansion.specs.Makings.{Makes, breaks, gives, ◌>>=◌, ◌>>◌}
 use Rattle.sml_expansion.specs.Scopes.{Scope, ident, text_of, meaning_of, is_fixed}
 use Rattle.sml_expansion.specs.Types.{labels, labels_once, type_of}
 use Rattle.sml_expansion.specs.Bare as bare
-use Rattle.sml_expansion.specs.Patterns.{Pattern, plain, beside, under, binds, identifier, applied, layer, layered, under_type, no_long, no_constructor, patterns}
+use Rattle.sml_expansion.specs.Patterns.{Pattern, plain, beside, under, binds, identifier, applied, layer, layered, under_type, no_long, no_constructor, single, patterns}
 use Rattle.expansion_laws.proofs.Contexts.{Context, MeaningIn, ScopeIn}
 use Rattle.expansion_laws.proofs.Forms as f
 use Rattle.expansion_laws.proofs.Forms.{Sizes, Quiet, Names, LabelsOnce, Is, before, after}
 use Rattle.expansion_laws.proofs.Growing.{Grows, grows_both, breaks_grows, breaks_quiet, breaks_nothing, name_grows, name_names, TyvarsIn, tyvars_on, ends_back, Done, done_same, done_so, done_both, done_behind, done_before}
-use Rattle.expansion_laws.proofs.Joined.{join_patterns, one_pattern, con_pattern_form}
+use Rattle.expansion_laws.proofs.Joined.{counted_patterns, join_patterns, one_pattern, con_pattern_form}
 use Rattle.expansion_laws.proofs.Derived.{no_doubles, record_pattern_form, tuple_pattern_form, list_pattern_form}
 use Rattle.expansion_laws.proofs.Meanings.{meaning_in}
 use Rattle.expansion_laws.proofs.Kinded as k
@@ -130,6 +131,12 @@ module _ (z : Sizes) (s : Scope) where
   pub one_done : (m : Made) (r : Pattern × Made) → PatDone z s m r → Done z s m r.1 (SomePatterns z m r)
   one_done m r d = done_so d (λ g v x. (1, x))
 
+  -- the one pattern between parentheses or in a row
+  single_done : (p : Place) (q : Makes Pattern) (m : Made) → PatDone z s m (q m) → PatDone z s m (single p q m)
+  single_done p q m d = done_so d (λ g v x.
+      let one : (count (q m).0.forest == 1) ≡ true = eq-eqb (count (q m).0.forest) 1 (counted_patterns x) in
+      subst (λ b. IsPatterns z m ((if b then (q m).0 else under (λ t. bare.wild_node p) (q m).0), (q m).1) 1 g) (sym one) x)
+
   record_done : (p : Place) (labs : List (Lab × Place)) (q : Makes Pattern) (m : Made) → TyvarsIn s m → ((k : Made) → TyvarsIn s k → Done z s k (q k).1 (IsPatterns z k (q k) (length labs)))
       → PatDone z s m (◌>>◌ (labels_once labs) (◌>>=◌ q (λ x. gives (under (bare.record_pattern p (map (λ l. l.0) labs)) x))) m)
   record_done p labs q m v d =
@@ -168,7 +175,7 @@ patterns_made z c s t (k.wild p) = λ m v. done_same (λ g w. one_pattern p f.is
 patterns_made z c s t (k.pat_unit p) = λ m v. done_same (λ g w. tuple_pattern_form p f.no_pattern)
 patterns_made z c s t (k.pat_empty_record p) = λ m v. done_same (λ g w. tuple_pattern_form p f.no_pattern)
 patterns_made z c s t (k.pat_empty_list p) = λ m v. done_same (λ g w. list_pattern_form p w.base 0 f.no_pattern)
-patterns_made z c s t (k.pat_paren p {a} h) = patterns_made z Pat s a h
+patterns_made z c s t (k.pat_paren p {a} h) = λ m v. single_done z s p (patterns s a) m (patterns_made z Pat s a h m v)
 patterns_made z c s t (k.pat_list p {a} h) = λ m v. list_done z s m (patterns s a m).1 p (patterns s a m).0 (patterns_made z Pats s a h m v)
 patterns_made z c s t (k.pat_record p {a} h) = λ m v. record_done z s p (labels s.names a) (patterns s a) m v (patterns_made z PatRows s a h)
 patterns_made z c s t (k.pat_tuple p {a} {b} h i) = λ m v.
@@ -182,7 +189,7 @@ patterns_made z c s t (k.typed_layered p w {t = u} {a} h i) = layered_done z s p
 patterns_made z c s t (k.one_pat h) = λ m v. one_done z s m (patterns s t m) (patterns_made z Pat s t h m v)
 patterns_made z c s t (k.more_pats p {a} {b} h i) = λ m v. first_and_others z s m (patterns s a) (patterns s b) v (patterns_made z Pat s a h m v) (patterns_made z Pats s b i (patterns s a m).1)
 patterns_made z c s t (k.more_atpats p {a} {b} h i) = λ m v. first_and_others z s m (patterns s a) (patterns s b) v (patterns_made z Pat s a h m v) (patterns_made z Pats s b i (patterns s a m).1)
-patterns_made z c s t (k.pat_row p {l} {a} h i) = λ m v. counted_as z s m (patterns s a m) (length (labels s.names l)) (one_label s.names l h) (patterns_made z Pat s a i m v)
+patterns_made z c s t (k.pat_row p {l} {a} h i) = λ m v. counted_as z s m (single p (patterns s a) m) (length (labels s.names l)) (one_label s.names l h) (single_done z s p (patterns s a) m (patterns_made z Pat s a i m v))
 patterns_made z c s t (k.pun_row p {l} h) = λ m v.
     counted_as z s m (patterns s t m) (length (labels s.names l)) (one_label s.names l h) (identifier_done z s m p (ident s.names l) (meaning_of s (ident s.names l).key) (option_in s (ident s.names l).key))
 patterns_made z c s t (k.typed_pun_row p {l} {t = u} h i) = λ m v.
