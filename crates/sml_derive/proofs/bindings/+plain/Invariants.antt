@@ -15,7 +15,7 @@ decreases-plain_binding l = l.at * 4
 abbrev pub invariant-plain_bindings-loop-first : goal.invariant-plain_bindings-loop-first
 invariant-plain_bindings-loop-first l = record {
   left : (t : Term) → IsAt l.parsed l.fn.at t → LeftBinds l.parsed (λ b. plain_bindings (scope_of l.parsed.names b)) t l.fn.walk l.walk l.fn.vars.items l.vars.items l.next;
-  below : l.next ≤ l.fn.at
+  below : l.next ≤ l.fn.at;
 }
 
 abbrev pub decreases-plain_bindings-loop-first : goal.decreases-plain_bindings-loop-first
