@@ -8,3 +8,4 @@ pub mod Schemas
 pub mod Sequences
 pub mod Spines
 pub mod Times
+pub mod Values

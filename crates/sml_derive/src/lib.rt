@@ -10,3 +10,4 @@ mod identifiers;
 mod number;
 mod pairs;
 mod parts;
+mod value_declarations;
