@@ -90,8 +90,8 @@ rec_led s t p nums names _ around from trees w0 _ _ _ _ w5 same a same same l sa
     let z = k x.0 w0.marks (append_assoc w0.marks (Open ∷ Open ∷ []) (marks x.0)) l in
     record {
       walk = z.0
-        ∙ ap (λ (v : List _). record { made = x.1; bindings = record { values = v; types = w0.bindings.types; tyvars = w0.bindings.tyvars }; marks = w0.marks ++ leads (unless_none (bare.ValRec nums (rec_bindings names)) p x.0) }) (oldest_behind around (env_of names).values w0.bindings.values (sym a))
-        ∙ marks_same (record w0 { made = x.1 }) _ _ (ap (λ (f : Forest). w0.marks ++ leads f) (rec_unless p nums names x.0));
+          ∙ ap (λ (v : List _). record { made = x.1; bindings = record { values = v; types = w0.bindings.types; tyvars = w0.bindings.tyvars }; marks = w0.marks ++ leads (unless_none (bare.ValRec nums (rec_bindings names)) p x.0) }) (oldest_behind around (env_of names).values w0.bindings.values (sym a))
+          ∙ marks_same (record w0 { made = x.1 }) _ _ (ap (λ (f : Forest). w0.marks ++ leads f) (rec_unless p nums names x.0));
       written = z.1 ∙ ap count (rec_unless p nums names x.0);
     }
 
@@ -158,9 +158,9 @@ val_declares s p vs b w0 _ _ _ _ vars more _ names _ around i j k _ w2 w3 w4 w5 
   where
     step : (vars : List Bound) (w2 : Walk) (names : List Bound) (w3 : Walk) (more : List Bound) (w4 w5 w6 : Walk)
         → let o = opens (scope s w0) (tyvars s.names vs) (unguarded b) w0.made in
-          let c = scope_of s.names (record { values = w0.bindings.values; types = w0.bindings.types; tyvars = reverse o.0 ++ w0.bindings.tyvars }) in
-          let x = plain_bindings c b o.1 in
-          Is x.0.vars vars
+        let c = scope_of s.names (record { values = w0.bindings.values; types = w0.bindings.types; tyvars = reverse o.0 ++ w0.bindings.tyvars }) in
+        let x = plain_bindings c b o.1 in
+        Is x.0.vars vars
         → Is (record { made = x.1; bindings = record { values = w0.bindings.values; types = w0.bindings.types; tyvars = reverse o.0 ++ w0.bindings.tyvars }; marks = w0.marks ++ leads (plain_dec p (numbers_of o.0) x.0.forest) }) w2
         → i ≡ count (plain_dec p (numbers_of o.0) x.0.forest)
         → Is (rec_names (scope s w2) false b w2.made).0 names → Is (made (named vars (rec_names (scope s w2) false b)) w2) w3 → Is (vars ++ names) more

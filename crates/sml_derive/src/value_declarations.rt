@@ -96,7 +96,12 @@ pub(crate) fn begin(walk: &mut Walk) -> Result<usize, NoMemory>
 }
 
 /// A declaration behind its parts. If it has none, there is no declaration.
-pub(crate) fn finish(walk: &mut Walk, from: usize, node: Node, place: Place) -> Result<u32, NoMemory>
+pub(crate) fn finish(
+    walk: &mut Walk,
+    from: usize,
+    node: Node,
+    place: Place,
+) -> Result<u32, NoMemory>
     ensures { IfOk result (λ trees. (f : Forest) (before : List Mark) → walk.old.marks ≡ before ++ Open ∷ Open ∷ marks f → from ≡ length before → (walk.new ≡ record walk.old { marks = before ++ leads (unless_none node place f) }) × (trees ≡ count (unless_none node place f))) }
 {
     if walk.marks.len().saturating_sub(from) > 2 {
