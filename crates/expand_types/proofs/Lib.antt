@@ -1,5 +1,6 @@
 pub mod AnnotationLemmas
 pub mod BindingLemmas
+pub mod ExceptionLemmas
 pub mod FlowLemmas
 pub mod OnceLemmas
 pub mod RowLemmas

@@ -1,5 +1,5 @@
 -- Each of some keys once.
-use Rattle.std.proofs.Common.{◌≡◌, ◌≢◌, ◌<◌, ◌≤◌, ℕ, suc, Bool, true, false, not, ◌||◌, cond, List, [], ◌∷◌, ◌++◌, Option, Some, None, map, filter, length, get_or, take, drop, refl, sym, ap, ◌∙◌, subst, append_assoc, eq-eqb, ne_eqb, add-one, ◌+◌, rules, tests}
+use Rattle.std.proofs.Common.{◌≡◌, ◌<◌, ℕ, suc, Bool, true, false, not, ◌||◌, List, [], ◌∷◌, ◌++◌, Some, map, filter, length, get_or, take, drop, refl, sym, ap, ◌∙◌, append_assoc, eq-eqb, ne_eqb, add-one, ◌+◌, rules, tests}
 use Rattle.std.proofs.lemmas.List.{take_more}
 use Rattle.std.proofs.Math.Seq.{drop-cons}
 use Rattle.std.specs.Prelude.{if◌then◌else◌, is_none, nat_eq}

@@ -1,5 +1,5 @@
 -- Steps one behind the other, and what is left of a list.
-use Rattle.std.proofs.Common.{◌≡◌, ℕ, List, ◌++◌, ap, ◌∙◌}
+use Rattle.std.proofs.Common.{◌≡◌, ℕ, List, ◌++◌, Result, Ok, Err, OnOk, ap, ◌∙◌}
 use Rattle.sml_expansion.specs.declared.made.Made.{Made}
 use Rattle.sml_expansion.specs.Makings.{Makes, Runs}
 use Rattle.smlc_base.specs.declared.place.Place.{Place}
@@ -51,3 +51,8 @@ as_many s _ _ (is_one a u n p j _ _ _ k _ _) = k
 as_many s _ _ (is_two a b u v n p j _ _ _ _ _ k _ _) = k
 as_many s _ _ (is_three a b c u v w n p j _ _ _ _ _ _ _ k _ _) = k
 as_many s _ _ (is_four a b c d u v w x n p j _ _ _ _ _ _ _ _ _ k _ _) = k
+
+-- what follows from two facts of one call
+pub on_both : {T E : Type 0} {P Q R : Type 0} (r : Result T E) → (P → Q → R) → OnOk r P → OnOk r Q → OnOk r R
+on_both (Ok x) f p q = f p q
+on_both (Err x) f p q = tt

@@ -1,5 +1,5 @@
 -- What a walk over a type does at each node is what its definition says.
-use Rattle.std.proofs.Common.{◌≡◌, ◌≢◌, ℕ, Bool, true, false, List, [], ◌∷◌, ◌++◌, get_or, refl, sym, ap, ◌∙◌, subst, append_assoc}
+use Rattle.std.proofs.Common.{◌≡◌, ◌≢◌, ℕ, true, false, List, [], ◌++◌, refl, sym, ap, ◌∙◌, subst, append_assoc}
 use Rattle.smlc_base.specs.declared.place.Place.{Place}
 use Rattle.sml_tree.specs.declared.tree_node.TreeNode.{TreeNode}
 use Rattle.sml_tree.specs.declared.tree_node.TreeNode.TheVariants as node

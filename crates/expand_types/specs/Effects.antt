@@ -1,15 +1,18 @@
 -- What a declaration does to the state of an expansion.
-use Rattle.std.specs.Prelude.{[], ◌∷◌, ◌++◌, reverse}
+use Rattle.std.specs.Prelude.{ℕ, Bool, List, [], ◌∷◌, ◌++◌, reverse}
 use Rattle.sml_tree.specs.declared.bare.TypeBinding.{TypeBinding}
 use Rattle.sml_expansion.specs.declared.scope.Ident.{Ident}
 use Rattle.sml_expansion.specs.declared.meaning.TypeMeaning.TheVariants.{Abbreviation}
 use Rattle.expand_types.specs.declared.type_declarations.TypeBindings.{TypeBindings}
 use Rattle.sml_expansion.specs.declared.scope.Bindings.{Bindings}
+use Rattle.sml_expansion.specs.declared.mark.Mark.{Mark}
+use Rattle.sml_expansion.specs.declared.meaning.Meaning.{Meaning}
+use Rattle.expand_types.specs.declared.exceptions.Exceptions.{Exceptions}
 use Rattle.sml_expansion.specs.declared.walk.Walk.{Walk}
 use Rattle.sml_expansion.specs.Makings.{Makes}
 use Rattle.sml_expansion.specs.Marks.{marks}
 use Rattle.sml_expansion.specs.Scopes.{Env}
-use Rattle.sml_expansion.specs.Bindings.{Decs, TypeDecs}
+use Rattle.sml_expansion.specs.Bindings.{Decs, TypeDecs, ExDecs}
 
 -- what was bound, and before it what a declaration binds
 abbrev pub bound : Bindings → Env → Bindings
@@ -28,3 +31,16 @@ types_behind x y = record { bindings = x.bindings ++ y.bindings; idents = x.iden
 
 abbrev pub one_type_binding : Ident → TypeBinding → TypeDecs
 one_type_binding i b = record { bindings = b ∷ []; idents = i ∷ []; types = (i.key, Abbreviation b.number) ∷ [] }
+
+-- the trees so far, and what exception bindings come to beside them, where those that are kept in order are shown the latest first
+pub record SoFar : Type 0 where
+  pub trees : List Mark
+  pub shown : List Bool
+  pub idents : List Ident
+  pub values : List (ℕ × Meaning)
+
+abbrev pub exceptions_so_far : Walk → Exceptions → SoFar
+exceptions_so_far w e = record { trees = w.marks; shown = e.shown; idents = e.idents; values = reverse e.values }
+
+abbrev pub exceptions_behind : SoFar → ExDecs → SoFar
+exceptions_behind s x = record { trees = s.trees ++ marks x.forest; shown = s.shown ++ x.shown; idents = s.idents ++ x.idents; values = x.values ++ s.values }

@@ -3,6 +3,7 @@ pub mod Binding
 pub mod Counting
 pub mod Declaring
 pub mod FormLemmas
+pub mod FunctionLemmas
 pub mod Nests
 pub mod Schemas
 pub mod Sequences

@@ -5,6 +5,7 @@ mod bindings;
 mod declarations;
 mod expressions;
 mod forms;
+mod function_declarations;
 mod functions;
 mod identifiers;
 mod number;

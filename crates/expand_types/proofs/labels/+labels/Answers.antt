@@ -1,11 +1,11 @@
-use Rattle.std.proofs.Common.{◌≡◌, ◌≤◌, ◌<◌, refl, rules, arith, sym, ap, ◌∙◌}
+use Rattle.std.proofs.Common.{◌≡◌, arith, sym, ap, ◌∙◌}
 use Rattle.std.proofs.lemmas.Result.{on_ok_weaker}
 use Rattle.sml_tree.specs.Parts.{parts_of}
 use Rattle.sml_expansion.specs.Sources.{node_at}
 use Rattle.sml_expansion.specs.Types.{labels}
 use Rattle.expand_types.specs.declared.labels.RowForm.TheVariants.{Rows, FirstOfOne, FirstOfTwo, FirstOfThree, Here}
 use Rattle.expand_types.specs.Forms.{row_form}
-use Rattle.expand_types.proofs.FlowLemmas.{flows_on, flows_end, in_only, in_first_of_two, in_first_of_three}
+use Rattle.expand_types.proofs.FlowLemmas.{flows_on, in_only, in_first_of_two, in_first_of_three}
 use Rattle.expand_types.proofs.RowLemmas.{rows_two, first_one, first_two, first_three, of_rows, of_one, of_two, of_three, in_here}
 use Rattle.expand_types.proofs.labels.+labels.Goals as goal
 

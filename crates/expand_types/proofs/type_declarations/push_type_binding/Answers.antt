@@ -1,4 +1,4 @@
-use Rattle.std.proofs.Common.{◌≡◌, ◌≢◌, ℕ, List, rules, refl, ap, ◌∙◌, subst}
+use Rattle.std.proofs.Common.{◌≢◌, ℕ, List, refl, ap, ◌∙◌, subst}
 use Rattle.sml_expansion.specs.Scopes.{scope_of}
 use Rattle.sml_expansion.specs.Makings.{Runs}
 use Rattle.sml_expansion.specs.Types.{type_of}

@@ -1,4 +1,4 @@
-use Rattle.std.proofs.Common.{◌≡◌, ◌++◌, ℕ, List, drop}
+use Rattle.std.proofs.Common.{◌++◌, ℕ, List, drop}
 use Rattle.sml_expansion.specs.declared.made.Made.{Made}
 use Rattle.sml_expansion.specs.Makings.{Runs}
 use Rattle.sml_expansion.specs.TypeVariables.{new_tyvars}

@@ -1,4 +1,4 @@
-use Rattle.std.proofs.Common.{◌≡◌, ◌++◌, take}
+use Rattle.std.proofs.Common.{◌≡◌, take}
 use Rattle.sml_expansion.specs.TypeVariables.{numbers_of}
 use Rattle.expand_types.proofs.type_variables.numbers_of.Given as goal
 

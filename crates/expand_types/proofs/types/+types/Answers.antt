@@ -1,4 +1,4 @@
-use Rattle.std.proofs.Common.{◌≡◌, ◌≤◌, ◌<◌, ℕ, refl, rules, arith, true, sym, ap, ◌∙◌, get_or, length}
+use Rattle.std.proofs.Common.{◌≡◌, refl, arith, true, sym, ap, ◌∙◌, get_or, length}
 use Rattle.std.proofs.lemmas.Result.{IfOk-weaker}
 use Rattle.sml_tree.specs.declared.tree_node.TreeNode.TheVariants as node
 use Rattle.sml_tree.specs.declared.bare.TypeExp.TheVariants as exp
