@@ -1,0 +1,12 @@
+pub mod Atoms
+pub mod Binding
+pub mod Counting
+pub mod Declaring
+pub mod FormLemmas
+pub mod FunctionLemmas
+pub mod Nests
+pub mod Schemas
+pub mod Sequences
+pub mod Spines
+pub mod Times
+pub mod Values

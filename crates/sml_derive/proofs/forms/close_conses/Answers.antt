@@ -1,0 +1,9 @@
+use Rattle.sml_derive.specs.Forms.{cons_end}
+use Rattle.sml_derive.proofs.Times.{no_times, once_more}
+use Rattle.sml_derive.proofs.forms.close_conses.Goals as goal
+
+pub loop-init : goal.loop-init
+loop-init c = no_times c.args.walk.now (cons_end c.args.place)
+
+pub loop-preserved : goal.loop-preserved
+loop-preserved c = once_more c.args.walk.now c.loop.walk c.close_cons.new.walk c.loop.counter (cons_end c.args.place) c.loop.invariant c.in_ok-close_cons.ensures

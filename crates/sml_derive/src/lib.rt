@@ -1,0 +1,14 @@
+//! From the parse tree to the bare tree: expressions, matches, declarations and programs.
+#![tactic(auto)]
+
+mod bindings;
+mod declarations;
+mod expressions;
+mod forms;
+mod function_declarations;
+mod functions;
+mod identifiers;
+mod number;
+mod pairs;
+mod parts;
+mod value_declarations;
