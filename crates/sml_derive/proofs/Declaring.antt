@@ -25,7 +25,7 @@ use Rattle.sml_derive.specs.Steps.{scope, marked, behind, bound_too, leads, led,
 use Rattle.sml_derive.proofs.Counting.{count_beside}
 use Rattle.sml_derive.proofs.Schemas.{Is, same, is}
 
-leads_beside : (f g : Forest) → leads (f & g) ≡ leads f ++ leads g
+pub leads_beside : (f g : Forest) → leads (f & g) ≡ leads f ++ leads g
 leads_beside none g = refl
 leads_beside (tree n p parts rest) g =
     ap (λ (l : List Mark). Open ∷ Open ∷ (marks parts ++ Close n p ∷ l)) (leads_beside rest g)

@@ -9,3 +9,4 @@ pub mod Schemas
 pub mod Sequences
 pub mod Spines
 pub mod Times
+pub mod Values

@@ -14,7 +14,7 @@ use sml_tree::TreeNode;
 use smlc_base::NoMemory;
 
 /// The patterns and right sides of the bindings before the first `rec`, with the variables that they bind.
-#[cycle(plain)]
+#[cycle(phrases)]
 pub(crate) fn plain_bindings(
     parsed: &Parsed,
     walk: &mut Walk,
@@ -33,7 +33,7 @@ pub(crate) fn plain_bindings(
 }
 
 /// A binding before the first `rec`.
-#[cycle(plain)]
+#[cycle(phrases)]
 fn plain_binding(
     parsed: &Parsed,
     walk: &mut Walk,

@@ -7,13 +7,14 @@ ghost use Rattle.sml_expansion.specs.Expressions.{decs};
 ghost use Rattle.sml_derive.specs.Steps.{Declares, scope};
 
 use crate::number::add;
-use crate::parts::{datatype_dec, exception_dec, fun_dec, hide, type_dec, val_dec};
+use crate::parts::{datatype_dec, exception_dec, fun_dec, hide, type_dec};
+use crate::value_declarations::val_dec;
 use sml_expansion::{Parsed, Walk};
 use sml_tree::TreeNode;
 use smlc_base::NoMemory;
 
 /// The declarations of a sequence: how many trees there are. What they bind is in scope.
-#[cycle(declarations)]
+#[cycle(phrases)]
 pub(crate) fn decs(parsed: &Parsed, walk: &mut Walk, at: u32) -> Result<u32, NoMemory>
     ensures { IfOk result (λ trees. (t : Term) → IsAt parsed.now at t → Declares (decs (scope parsed.now walk.old) t) walk.old walk.new trees) }
 {
@@ -30,7 +31,7 @@ pub(crate) fn decs(parsed: &Parsed, walk: &mut Walk, at: u32) -> Result<u32, NoM
 }
 
 /// A declaration.
-#[cycle(declarations)]
+#[cycle(phrases)]
 fn dec(parsed: &Parsed, walk: &mut Walk, at: u32) -> Result<u32, NoMemory>
     ensures { IfOk result (λ trees. (t : Term) → IsAt parsed.now at t → Declares (decs (scope parsed.now walk.old) t) walk.old walk.new trees) }
 {

@@ -11,3 +11,4 @@ mod identifiers;
 mod number;
 mod pairs;
 mod parts;
+mod value_declarations;

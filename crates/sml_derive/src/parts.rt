@@ -19,7 +19,7 @@ use smlc_base::{NoMemory, Place};
 pub fn labels(parsed: &Parsed, walk: &Walk, at: u32) -> Result<Vec<(Lab, Place)>, NoMemory>
     ensures { IfOk result (λ labs. (t : Term) → IsAt parsed.now at t → labs.items ≡ labels parsed.now.names t) }
 {
-    Err(NoMemory)
+    expand_types::labels::labels(walk.allocator(), parsed, at)
 }
 
 /// A type as it is written.
@@ -27,7 +27,7 @@ pub fn type_of(parsed: &Parsed, walk: &mut Walk, at: u32) -> Result<u32, NoMemor
     ensures walk { OnOk result ((t : Term) → IsAt parsed.now at t → walk.new ≡ made (type_of (scope parsed.now walk.old) t) walk.old) }
     ensures number { IfOk result (λ number. (t : Term) → IsAt parsed.now at t → number ≡ (type_of (scope parsed.now walk.old) t walk.old.made).0) }
 {
-    Err(NoMemory)
+    expand_types::type_of(parsed, &walk.bindings, &mut walk.made, at)
 }
 
 /// A pattern in which no name stands twice, with the variables that it binds.
@@ -35,14 +35,16 @@ pub fn whole_pattern(parsed: &Parsed, walk: &mut Walk, at: u32) -> Result<Vec<Bo
     ensures walk { OnOk result ((t : Term) → IsAt parsed.now at t → walk.new ≡ writes_pattern (whole (patterns (scope parsed.now walk.old) t)) walk.old) }
     ensures vars { IfOk result (λ vars. (t : Term) → IsAt parsed.now at t → vars.items ≡ (whole (patterns (scope parsed.now walk.old) t) walk.old.made).0.vars) }
 {
-    Err(NoMemory)
+    let mut vars = Vec::new(walk.allocator());
+    expand_patterns::whole(parsed, walk, &mut vars, at)?;
+    Ok(vars)
 }
 
 /// Variables come into scope.
 pub fn see(walk: &mut Walk, vars: &[Bound]) -> Result<(), NoMemory>
     ensures { OnOk result (walk.new ≡ seen (env_of vars.now) walk.old) }
 {
-    Err(NoMemory)
+    expand_patterns::put_in_force(walk, vars)
 }
 
 /// The variables since so many bindings go out of scope.
@@ -100,13 +102,6 @@ pub fn exception_dec(
     Err(NoMemory)
 }
 
-/// A `val` declaration.
-pub fn val_dec(parsed: &Parsed, walk: &mut Walk, at: u32) -> Result<u32, NoMemory>
-    ensures { IfOk result (λ trees. (p : Place) (vs b : Term) → IsAt parsed.now at (two node.Val p vs b) → Declares (decs (scope parsed.now walk.old) (two node.Val p vs b)) walk.old walk.new trees) }
-{
-    Err(NoMemory)
-}
-
 /// A `fun` declaration.
 pub fn fun_dec(parsed: &Parsed, walk: &mut Walk, at: u32) -> Result<u32, NoMemory>
     ensures { IfOk result (λ trees. (p : Place) (vs b : Term) → IsAt parsed.now at (two node.Fun p vs b) → Declares (decs (scope parsed.now walk.old) (two node.Fun p vs b)) walk.old walk.new trees) }
@@ -123,5 +118,6 @@ pub fn pattern(
 ) -> Result<(), NoMemory>
     ensures { OnOk result ((t : Term) → IsAt parsed.now at t → Binds (patterns (scope parsed.now walk.old) t) walk.old walk.new vars.old.items vars.new.items) }
 {
-    Err(NoMemory)
+    expand_patterns::patterns::patterns(parsed, walk, vars, at)?;
+    Ok(())
 }
