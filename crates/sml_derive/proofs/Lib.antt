@@ -4,7 +4,11 @@ pub mod Counting
 pub mod Declaring
 pub mod FormLemmas
 pub mod Nests
+pub mod Roots
 pub mod Schemas
 pub mod Sequences
 pub mod Spines
 pub mod Times
+pub mod Links
+pub mod TopLemmas
+pub mod Wholes

@@ -8,5 +8,10 @@ mod forms;
 mod functions;
 mod identifiers;
 mod number;
+mod outline;
 mod pairs;
 mod parts;
+mod program;
+mod top_trees;
+
+pub use program::bare;
