@@ -5,8 +5,12 @@ pub mod Declaring
 pub mod FormLemmas
 pub mod FunctionLemmas
 pub mod Nests
+pub mod Roots
 pub mod Schemas
 pub mod Sequences
 pub mod Spines
 pub mod Times
 pub mod Values
+pub mod Links
+pub mod TopLemmas
+pub mod Wholes

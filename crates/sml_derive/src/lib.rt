@@ -9,6 +9,11 @@ mod function_declarations;
 mod functions;
 mod identifiers;
 mod number;
+mod outline;
 mod pairs;
 mod parts;
+mod program;
+mod top_trees;
 mod value_declarations;
+
+pub use program::bare;
