@@ -11,7 +11,6 @@ use Rattle.sml_derive.proofs.Binding.{LeftBinds}
 use Rattle.sml_derive.proofs.Declaring.{LeftDecs}
 use Rattle.sml_derive.proofs.Values.{LeftRights}
 use Rattle.sml_derive.specs.FunctionDeclarations.{function_of}
-
 use Rattle.sml_derive.proofs.+phrases.Given as goal
 
 abbrev pub decreases-expressions::beside : goal.decreases-expressions::beside
