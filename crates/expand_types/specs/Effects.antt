@@ -1,5 +1,5 @@
 -- What a declaration does to the state of an expansion.
-use Rattle.std.specs.Prelude.{ℕ, Bool, List, [], ◌∷◌, ◌++◌, reverse}
+use Rattle.std.specs.Prelude.{ℕ, Bool, List, [], ◌∷◌, ◌++◌, map, reverse}
 use Rattle.sml_tree.specs.declared.bare.TypeBinding.{TypeBinding}
 use Rattle.sml_expansion.specs.declared.scope.Ident.{Ident}
 use Rattle.sml_expansion.specs.declared.meaning.TypeMeaning.TheVariants.{Abbreviation}
@@ -8,13 +8,15 @@ use Rattle.sml_expansion.specs.declared.scope.Bindings.{Bindings}
 use Rattle.sml_expansion.specs.declared.mark.Mark.{Mark}
 use Rattle.sml_expansion.specs.declared.meaning.Meaning.{Meaning}
 use Rattle.expand_types.specs.declared.exceptions.Exceptions.{Exceptions}
+use Rattle.expand_types.specs.declared.datatypes.NewConstructor.{NewConstructor}
+use Rattle.expand_types.specs.declared.datatypes.Datatypes.{Datatypes}
 use Rattle.sml_expansion.specs.declared.walk.Walk.{Walk}
 use Rattle.sml_expansion.specs.Makings.{Makes}
 use Rattle.sml_expansion.specs.declared.mark.Mark.TheVariants.{Open, Close}
 use Rattle.sml_expansion.specs.Forests.{Forest, none, tree}
 use Rattle.sml_expansion.specs.Marks.{marks}
 use Rattle.sml_expansion.specs.Scopes.{Env}
-use Rattle.sml_expansion.specs.Bindings.{Decs, TypeDecs, ExDecs}
+use Rattle.sml_expansion.specs.Bindings.{Decs, TypeDecs, NewCon, DatDecs, ExDecs}
 
 -- what was bound, and before it what a declaration binds
 abbrev pub bound : Bindings → Env → Bindings
@@ -42,6 +44,17 @@ types_behind x y = record { bindings = x.bindings ++ y.bindings; idents = x.iden
 
 abbrev pub one_type_binding : Ident → TypeBinding → TypeDecs
 one_type_binding i b = record { bindings = b ∷ []; idents = i ∷ []; types = (i.key, Abbreviation b.number) ∷ [] }
+
+-- the constructors of a datatype
+abbrev pub new_cons : List NewConstructor → List NewCon
+new_cons cons = map (λ c. record { ident = c.ident; arg = c.arg }) cons
+
+-- what `datatype` bindings come to, where those that are kept in order are shown the latest first
+abbrev pub datatypes_shown : Datatypes → DatDecs
+datatypes_shown d = record { bindings = d.bindings; idents = d.idents; values = reverse d.values }
+
+abbrev pub datatypes_behind : DatDecs → DatDecs → DatDecs
+datatypes_behind x y = record { bindings = x.bindings ++ y.bindings; idents = x.idents ++ y.idents; values = y.values ++ x.values }
 
 -- the trees so far, and what exception bindings come to beside them, where those that are kept in order are shown the latest first
 pub record SoFar : Type 0 where

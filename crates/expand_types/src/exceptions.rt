@@ -72,7 +72,8 @@ fn declare(
     done.push(ident, Con::Exn { name, takes })
 }
 
-fn has(arg: Option<u32>) -> bool
+/// Whether there is an argument.
+pub(crate) fn has(arg: Option<u32>) -> bool
     ensures { result ≡ has arg }
 {
     match arg {
