@@ -1,9 +1,8 @@
 -- Nodes behind their parts.
-use Rattle.std.proofs.Common.{◌≡◌, ℕ, List, [], ◌∷◌, ◌++◌, Option, Some, None, Result, Ok, Err, IfOk, refl, sym, ap, ◌∙◌, subst}
+use Rattle.std.proofs.Common.{◌≡◌, ℕ, List, ◌++◌, Option, Some, None, Result, Ok, Err, IfOk, refl, ap, ◌∙◌, subst}
 use Rattle.smlc_base.specs.declared.place.Place.{Place}
 use Rattle.sml_tree.specs.declared.bare.Con.{Con}
 use Rattle.sml_tree.specs.declared.bare.Field.{Field}
-use Rattle.sml_tree.specs.declared.bare.Node.{Node}
 use Rattle.sml_tree.specs.declared.bare.Node.TheVariants as bare
 use Rattle.sml_expansion.specs.declared.meaning.Meaning.{Meaning}
 use Rattle.sml_expansion.specs.declared.meaning.Meaning.TheVariants.{Variable, Constructor, Builtin}
@@ -12,7 +11,7 @@ use Rattle.sml_expansion.specs.declared.scope.Bound.{Bound}
 use Rattle.sml_expansion.specs.declared.scope.Ident.{Ident}
 use Rattle.sml_expansion.specs.declared.walk.Walk.{Walk}
 use Rattle.sml_expansion.specs.Bare.{fields, tuple_pattern}
-use Rattle.sml_expansion.specs.Forests.{Forest, none, grown, count}
+use Rattle.sml_expansion.specs.Forests.{Forest, grown, count}
 use Rattle.sml_expansion.specs.Labels.{numbers}
 use Rattle.sml_expansion.specs.Makings.{Makes}
 use Rattle.sml_expansion.specs.Marks.{marks}

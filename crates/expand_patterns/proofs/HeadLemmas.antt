@@ -1,7 +1,7 @@
 -- Clauses and heads by the node at their root.
 use Rattle.std.proofs.Common.{◌≡◌, refl}
 use Rattle.sml_tree.specs.declared.tree_node.TreeNode.TheVariants as node
-use Rattle.sml_expansion.specs.Terms.{Term, leaf, one, two, three, four, node_of}
+use Rattle.sml_expansion.specs.Terms.{Term, two, three, four, node_of}
 use Rattle.sml_expansion.specs.Clauses.{head, first_clause, name_of}
 
 pub head_same : (t : Term) → (node_of t ≡ node.Clause → ⊥) → (node_of t ≡ node.TypedClause → ⊥) → head t ≡ t

@@ -1,5 +1,5 @@
 -- Patterns beside each other, and behind what is made first.
-use Rattle.std.proofs.Common.{◌≡◌, ℕ, zero, suc, ◌+◌, List, [], ◌∷◌, ◌++◌, Option, Some, None, refl, sym, ap, ap₂, ◌∙◌, subst, arith}
+use Rattle.std.proofs.Common.{◌≡◌, ℕ, suc, ◌+◌, List, [], ◌∷◌, ◌++◌, refl, sym, ap, ap₂, ◌∙◌, subst, arith}
 use Rattle.std.proofs.lemmas.List.{append_assoc, append-nil}
 use Rattle.smlc_base.specs.declared.place.Place.{Place}
 use Rattle.sml_tree.specs.declared.tree_node.TreeNode.TheVariants as node
@@ -17,7 +17,7 @@ use Rattle.sml_expansion.specs.Forests.{Forest, none, tree, grown, count, ◌&�
 use Rattle.sml_expansion.specs.Labels.{numbers}
 use Rattle.sml_expansion.specs.Makings.{Makes, Runs, gives, ◌>>=◌}
 use Rattle.sml_expansion.specs.Marks.{marks}
-use Rattle.sml_expansion.specs.Patterns.{Pattern, beside, under, binds, layer, layered, typed, under_type, identifier, patterns}
+use Rattle.sml_expansion.specs.Patterns.{Pattern, beside, binds, layer, layered, typed, under_type, identifier, patterns}
 use Rattle.sml_expansion.specs.Scopes.{Scope, scope_of, ident, meaning_of}
 use Rattle.sml_expansion.specs.Terms.{Term, one, two, three}
 use Rattle.sml_expansion.specs.Types.{labels, labs_of, labels_once, type_of}

@@ -1,5 +1,5 @@
 -- Patterns by what their nodes are.
-use Rattle.std.proofs.Common.{◌≡◌, ℕ, List, ◌==◌, ◌&&◌, eqb, Bool, true, false, if◌then◌else◌, Option, Some, None, refl, sym, ap, ◌∙◌, subst}
+use Rattle.std.proofs.Common.{◌≡◌, ℕ, List, ◌==◌, Bool, true, false, if◌then◌else◌, Option, Some, None, refl, sym, ap, ◌∙◌, subst}
 use Rattle.std.proofs.lemmas.Bool.{eqb-true}
 use Rattle.smlc_base.specs.declared.place.Place.{Place}
 use Rattle.sml_tree.specs.declared.tree_node.TreeNode.{TreeNode}
@@ -11,9 +11,9 @@ use Rattle.sml_expansion.specs.declared.meaning.Meaning.{Meaning}
 use Rattle.sml_expansion.specs.declared.meaning.Meaning.TheVariants.{Variable, Constructor, Builtin}
 use Rattle.sml_expansion.specs.declared.scope.Ident.{Ident}
 use Rattle.sml_expansion.specs.Bare.{tuple_pattern, list_pattern, wild_node}
-use Rattle.sml_expansion.specs.Forests.{Forest, none, tree, grown, count}
+use Rattle.sml_expansion.specs.Forests.{Forest, none, grown, count}
 use Rattle.sml_expansion.specs.Makings.{Makes, gives}
-use Rattle.sml_expansion.specs.Patterns.{Pattern, plain, under, single, layer, layered, applied, under_type, variable, identifier, patterns}
+use Rattle.sml_expansion.specs.Patterns.{Pattern, plain, under, single, layer, applied, variable, identifier, patterns}
 use Rattle.sml_expansion.specs.Scopes.{Scope, ident, meaning_of}
 use Rattle.sml_expansion.specs.Sources.{Source, IsAt, node_at}
 use Rattle.sml_expansion.specs.Terms.{Term, leaf, one, two, three, four, node_of, place_at}

@@ -1,6 +1,8 @@
 -- Exception bindings, one behind the other.
-use Rattle.std.proofs.Common.{◌≡◌, ◌≢◌, ℕ, Bool, Option, Some, None, List, [], ◌++◌, refl, sym, ap, ◌∙◌, subst, append_assoc}
-use Rattle.std.proofs.lemmas.List.{append-nil}
+use Rattle.std.proofs.Common.{◌≡◌, ◌≢◌, ℕ, suc, ◌+◌, Bool, Option, Some, None, List, [], ◌∷◌, ◌++◌, length, refl, sym, ap, ◌∙◌, subst, append_assoc, arith}
+use Rattle.sml_tree.specs.declared.bare.Con.TheVariants as con
+use Rattle.sml_expansion.specs.declared.meaning.Meaning.TheVariants.{Constructor}
+use Rattle.std.proofs.lemmas.List.{append-nil, length-append}
 use Rattle.smlc_base.specs.declared.place.Place.{Place}
 use Rattle.sml_tree.specs.declared.tree_node.TreeNode.{TreeNode}
 use Rattle.sml_tree.specs.declared.tree_node.TreeNode.TheVariants as node
@@ -17,9 +19,9 @@ use Rattle.sml_expansion.specs.Sources.{Source, IsAt, node_at}
 use Rattle.sml_expansion.specs.Scopes.{Scope, ident, text_of, meaning_of}
 use Rattle.sml_expansion.specs.Types.{type_of}
 use Rattle.sml_expansion.specs.Bindings.{ExDecs, exceptions, exception_of, renaming_of, unbound}
-use Rattle.sml_expansion.proofs.MarkLemmas.{marks_beside}
 use Rattle.sml_expansion.proofs.Shapes.{as_one, as_two, node_is}
-use Rattle.expand_types.specs.Effects.{SoFar, exceptions_behind}
+use Rattle.sml_expansion.specs.declared.mark.Mark.TheVariants.{Open, Close}
+use Rattle.expand_types.specs.Effects.{leads, SoFar, exceptions_behind}
 use Rattle.expand_types.proofs.Steps.{behind, Part, Pair}
 
 abbrev pub joined : ExDecs → ExDecs → ExDecs
@@ -31,11 +33,43 @@ no_exceptions = record { forest = forest.none; shown = []; idents = []; values =
 so_far : {t u : List Mark} {a b : List Bool} {c d : List Ident} {e f : List (ℕ × Meaning)} → t ≡ u → a ≡ b → c ≡ d → e ≡ f → (let r : SoFar = record { trees = t; shown = a; idents = c; values = e } in r) ≡ record { trees = u; shown = b; idents = d; values = f }
 so_far g h k l = cc
 
+count_beside : (f g : Forest) → forest.count (f & g) ≡ forest.count f + forest.count g
+count_beside forest.none g = omega arith
+count_beside (forest.tree n p parts rest) g = let e : forest.count (rest & g) ≡ forest.count rest + forest.count g = count_beside rest g in omega (arith, e)
+
+leads_beside : (f g : Forest) → leads (f & g) ≡ leads f ++ leads g
+leads_beside forest.none g = refl
+leads_beside (forest.tree n p parts rest) g =
+    ap (λ (l : List Mark). Open ∷ Open ∷ (marks parts ++ Close n p ∷ l)) (leads_beside rest g)
+    ∙ ap (λ (l : List Mark). Open ∷ Open ∷ l) (sym (append_assoc (marks parts) (Close n p ∷ leads rest) (leads g)))
+
 pub assoc : (s : SoFar) (x y : ExDecs) → exceptions_behind (exceptions_behind s x) y ≡ exceptions_behind s (joined x y)
-assoc s x y = so_far (append_assoc s.trees (marks x.forest) (marks y.forest) ∙ ap (λ q. s.trees ++ q) (sym (marks_beside x.forest y.forest))) (append_assoc s.shown x.shown y.shown) (append_assoc s.idents x.idents y.idents) (sym (append_assoc y.values x.values s.values))
+assoc s x y = so_far (append_assoc s.trees (leads x.forest) (leads y.forest) ∙ ap (λ q. s.trees ++ q) (sym (leads_beside x.forest y.forest))) (append_assoc s.shown x.shown y.shown) (append_assoc s.idents x.idents y.idents) (sym (append_assoc y.values x.values s.values))
 
 unit : (s : SoFar) → s ≡ exceptions_behind s no_exceptions
 unit s = so_far (sym (append-nil s.trees)) (sym (append-nil s.shown)) (sym (append-nil s.idents)) refl
+
+-- for each tree whether it is shown
+renamed_shown : (p : Place) (i : Ident) (x : ℕ) (m : Option Meaning) → length (renaming_of p i x m).shown ≡ forest.count (renaming_of p i x m).forest
+renamed_shown p i x (Some (Constructor (con.Exn y takes))) = refl
+renamed_shown p i x (Some (Constructor (con.Library e))) = refl
+renamed_shown p i x (Some (Constructor _)) = refl
+renamed_shown p i x (Some _) = refl
+renamed_shown p i x None = refl
+
+shown_beside : (x y : ExDecs) → length x.shown ≡ forest.count x.forest → length y.shown ≡ forest.count y.forest → length (joined x y).shown ≡ forest.count (joined x y).forest
+shown_beside x y h k = length-append x.shown y.shown ∙ ap (λ n. n + length y.shown) h ∙ ap (λ n. forest.count x.forest + n) k ∙ sym (count_beside x.forest y.forest)
+
+pub shown_each : (s : Scope) (p : Place) (t : Term) (m : Made) → length (exceptions s p t m).0.shown ≡ forest.count (exceptions s p t m).0.forest
+shown_each s p (one node.ExBind q v) m = refl
+shown_each s p (two node.ExBindOf q v t) m = refl
+shown_each s p (two node.ExBindIs q v w) m = renamed_shown p (ident s.names v) _ (meaning_of s (ident s.names w).key)
+shown_each s p (two node.MoreExBinds q a b) m = shown_beside (exceptions s p a m).0 (exceptions s p b (exceptions s p a m).1).0 (shown_each s p a m) (shown_each s p b (exceptions s p a m).1)
+shown_each s p (leaf n q) m = refl
+shown_each s p (one _ q a) m = refl
+shown_each s p (two _ q a b) m = refl
+shown_each s p (three n q a b c) m = refl
+shown_each s p (four n q a b c d) m = refl
 
 module _ (src : Source) (s : Scope) (p : Place) where
   none_one : (n : TreeNode) (q : Place) (a : Term) (m : Made) → n ≢ node.ExBind → exceptions s p (one n q a) m ≡ (no_exceptions, m)

@@ -1,9 +1,11 @@
 pub mod AnnotationLemmas
 pub mod BindingLemmas
+pub mod DatatypeLemmas
 pub mod ExceptionLemmas
 pub mod FlowLemmas
 pub mod OnceLemmas
 pub mod RowLemmas
+pub mod SpineLemmas
 pub mod Steps
 pub mod TyvarLemmas
 pub mod TypeLemmas

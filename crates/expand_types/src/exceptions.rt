@@ -8,7 +8,7 @@ ghost use Rattle.sml_expansion.specs.Scopes.{scope_of, meaning_of};
 ghost use Rattle.sml_expansion.specs.declared.meaning.Meaning.TheVariants.{Constructor};
 ghost use Rattle.sml_expansion.specs.Makings.{Runs, breaks};
 ghost use Rattle.sml_expansion.specs.Bindings.{ExDecs, exceptions, exception_dec, exception_of, renaming_of, is_exception, has, none_fixed, unbound};
-ghost use Rattle.expand_types.specs.Effects.{declared, exceptions_so_far, exceptions_behind};
+ghost use Rattle.expand_types.specs.Effects.{led, exceptions_so_far, exceptions_behind};
 
 use crate::types::type_of;
 use sml_expansion::base::is_fixed;
@@ -67,11 +67,13 @@ fn declare(
 {
     let name = Name(name);
     let takes = has(arg);
+    walk.open()?;
     walk.leaf(Node::Exception(name, arg), place)?;
     done.push(ident, Con::Exn { name, takes })
 }
 
-fn has(arg: Option<u32>) -> bool
+/// Whether there is an argument.
+pub(crate) fn has(arg: Option<u32>) -> bool
     ensures { result ≡ has arg }
 {
     match arg {
@@ -105,6 +107,7 @@ fn rename(
     ensures done { OnOk result (exceptions_so_far walk.new done.new ≡ exceptions_behind (exceptions_so_far walk.old done.old) (renaming_of place ident name meaning)) }
 {
     let name = Name(name);
+    walk.open()?;
     match meaning {
         Some(Meaning::Constructor(con)) => {
             if is_exception(con) {
@@ -221,14 +224,14 @@ pub(crate) fn bind_values(
     Ok(())
 }
 
-/// An `exception` declaration at this place with these bindings: for each of its trees whether its variables are shown. What it binds is in force.
+/// An `exception` declaration at this place with these bindings: for each of its trees, before which a mark more stands, whether its variables are shown. What it binds is in force.
 pub fn exception_dec(
     parsed: &Parsed,
     walk: &mut Walk,
     place: Place,
     at: u32,
 ) -> Result<Vec<bool>, NoMemory>
-    ensures state { IfOk result (λ shown. (t : Term) → IsAt parsed.now at t → walk.new ≡ declared walk.old (exception_dec (scope_of parsed.now.names walk.old.bindings) place t)) }
+    ensures state { IfOk result (λ shown. (t : Term) → IsAt parsed.now at t → walk.new ≡ led walk.old (exception_dec (scope_of parsed.now.names walk.old.bindings) place t)) }
     ensures shown { IfOk result (λ shown. (t : Term) → IsAt parsed.now at t → let r = exception_dec (scope_of parsed.now.names walk.old.bindings) place t walk.old.made in shown.items ≡ r.0.shown) }
 {
     let mut done = Exceptions::new(walk.allocator());

@@ -1,17 +1,15 @@
-use Rattle.std.proofs.Common.{◌≡◌, ℕ, ◌+◌, List, refl, sym, ap, ◌∙◌, subst, arith}
+use Rattle.std.proofs.Common.{◌≡◌, List, refl, sym, ◌∙◌, subst}
 use Rattle.smlc_base.specs.declared.place.Place.{Place}
 use Rattle.sml_tree.specs.declared.tree_node.TreeNode.TheVariants as node
-use Rattle.sml_tree.specs.Parts.{parts_of}
 use Rattle.sml_expansion.specs.declared.scope.Bound.{Bound}
 use Rattle.sml_expansion.specs.declared.walk.Walk.{Walk}
-use Rattle.sml_expansion.specs.Makings.{Makes, gives, breaks}
-use Rattle.sml_expansion.specs.Patterns.{patterns, plain}
+use Rattle.sml_expansion.specs.Makings.{Makes}
 use Rattle.sml_expansion.specs.Scopes.{Scope}
 use Rattle.sml_expansion.specs.Sources.{IsAt, node_at}
-use Rattle.sml_expansion.specs.Terms.{Term, two, node_of}
-use Rattle.sml_expansion.proofs.Shapes.{node_is, as_one, as_two, as_three, as_four}
-use Rattle.expand_patterns.specs.Expands.{Expands, Binds}
-use Rattle.expand_patterns.proofs.Behind.{if_ok, agree}
+use Rattle.sml_expansion.specs.Terms.{Term, two}
+use Rattle.sml_expansion.proofs.Shapes.{node_is, as_two}
+use Rattle.expand_patterns.specs.Expands.{Binds}
+use Rattle.expand_patterns.proofs.Behind.{if_ok}
 use Rattle.sml_expansion.specs.Clauses.{binds_function, binds_functions}
 use Rattle.expand_patterns.proofs.BindLemmas.{both_bind, function_alone}
 use Rattle.expand_patterns.proofs.clauses.binds_functions.Goals as goal

@@ -1,8 +1,8 @@
-use Rattle.std.proofs.Common.{◌≡◌, ap, ◌∙◌, subst}
+use Rattle.std.proofs.Common.{subst}
 use Rattle.sml_tree.specs.declared.bare.Node.{Node}
 use Rattle.sml_expansion.specs.Forests.{grown}
 use Rattle.expand_patterns.specs.Expands.{Expands}
-use Rattle.expand_patterns.specs.Opens.{wrapped, layer_node}
+use Rattle.expand_patterns.specs.Opens.{wrapped}
 use Rattle.expand_patterns.proofs.Behind.{if_ok, layer_closed}
 use Rattle.expand_patterns.proofs.closing.close_layer.Goals as goal
 

@@ -1,4 +1,4 @@
-use Rattle.std.proofs.Common.{◌≡◌, List, ap, ◌∙◌, subst}
+use Rattle.std.proofs.Common.{List, subst}
 use Rattle.sml_tree.specs.declared.bare.Field.{Field}
 use Rattle.sml_tree.specs.declared.bare.Node.TheVariants as bare
 use Rattle.sml_expansion.specs.Forests.{grown}

@@ -1,17 +1,8 @@
-use Rattle.std.proofs.Common.{◌≡◌, ℕ, ◌+◌, List, refl, sym, ap, ◌∙◌, subst, arith}
-use Rattle.smlc_base.specs.declared.place.Place.{Place}
+use Rattle.std.proofs.Common.{◌≡◌, ◌+◌, refl, sym, ap, ◌∙◌}
 use Rattle.sml_tree.specs.declared.tree_node.TreeNode.TheVariants as node
-use Rattle.sml_tree.specs.Parts.{parts_of}
-use Rattle.sml_expansion.specs.declared.scope.Bound.{Bound}
-use Rattle.sml_expansion.specs.declared.walk.Walk.{Walk}
-use Rattle.sml_expansion.specs.Makings.{Makes, gives, breaks}
-use Rattle.sml_expansion.specs.Patterns.{patterns, plain}
-use Rattle.sml_expansion.specs.Scopes.{Scope}
-use Rattle.sml_expansion.specs.Sources.{IsAt, node_at}
-use Rattle.sml_expansion.specs.Terms.{Term, two, node_of}
-use Rattle.sml_expansion.proofs.Shapes.{node_is, as_one, as_two, as_three, as_four}
-use Rattle.expand_patterns.specs.Expands.{Expands, Binds}
-use Rattle.expand_patterns.proofs.Behind.{if_ok, agree}
+use Rattle.sml_expansion.specs.Terms.{Term}
+use Rattle.sml_expansion.proofs.Shapes.{node_is, as_two, as_four}
+use Rattle.expand_patterns.proofs.Behind.{if_ok}
 use Rattle.sml_expansion.specs.Clauses.{arguments_in}
 use Rattle.expand_patterns.proofs.BindLemmas.{arguments_alone}
 use Rattle.expand_patterns.proofs.heads.arguments_in.Goals as goal

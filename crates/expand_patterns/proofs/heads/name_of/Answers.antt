@@ -1,4 +1,4 @@
-use Rattle.std.proofs.Common.{◌≡◌, sym, ◌∙◌, refl, subst}
+use Rattle.std.proofs.Common.{sym, ◌∙◌, refl, subst}
 use Rattle.sml_tree.specs.declared.tree_node.TreeNode.TheVariants as node
 use Rattle.sml_expansion.specs.Terms.{Term}
 use Rattle.sml_expansion.specs.Sources.{IsAt}

@@ -1,11 +1,11 @@
-use Rattle.std.proofs.Common.{◌≡◌, ℕ, Bool, true, false, List, refl, sym, ap, ◌∙◌, subst}
+use Rattle.std.proofs.Common.{◌≡◌, true, false, List, refl, sym, ap, ◌∙◌}
 use Rattle.sml_tree.specs.declared.tree_node.TreeNode.TheVariants as node
 use Rattle.sml_expansion.specs.declared.scope.Bound.{Bound}
-use Rattle.sml_expansion.specs.Bindings.{rec_ident, rec_name}
+use Rattle.sml_expansion.specs.Bindings.{rec_name}
 use Rattle.sml_expansion.specs.Makings.{Makes}
-use Rattle.sml_expansion.specs.Scopes.{Scope, scope_of}
-use Rattle.sml_expansion.specs.Sources.{IsAt, node_at}
-use Rattle.sml_expansion.specs.Terms.{Term, one, two, node_of}
+use Rattle.sml_expansion.specs.Scopes.{scope_of}
+use Rattle.sml_expansion.specs.Sources.{node_at}
+use Rattle.sml_expansion.specs.Terms.{Term, node_of}
 use Rattle.sml_expansion.proofs.Shapes.{node_is, as_one, as_two}
 use Rattle.expand_patterns.specs.Expands.{Binds}
 use Rattle.expand_patterns.specs.Names.{is_vid, refused_vars}

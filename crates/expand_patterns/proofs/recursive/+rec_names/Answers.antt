@@ -1,14 +1,13 @@
-use Rattle.std.proofs.Common.{◌≡◌, ℕ, Bool, true, false, List, [], refl, sym, ap, ◌∙◌, subst, arith}
-use Rattle.std.proofs.lemmas.List.{append-nil}
+use Rattle.std.proofs.Common.{◌≡◌, Bool, true, List, [], refl, sym, ap, ◌∙◌, subst, arith}
 use Rattle.sml_tree.specs.declared.tree_node.TreeNode.TheVariants as node
 use Rattle.sml_tree.specs.Parts.{parts_of}
 use Rattle.sml_expansion.specs.declared.scope.Bound.{Bound}
 use Rattle.sml_expansion.specs.declared.walk.Walk.{Walk}
-use Rattle.sml_expansion.specs.Bindings.{rec_name, rec_names}
+use Rattle.sml_expansion.specs.Bindings.{rec_names}
 use Rattle.sml_expansion.specs.Makings.{Makes, gives}
-use Rattle.sml_expansion.specs.Scopes.{Scope, scope_of}
+use Rattle.sml_expansion.specs.Scopes.{scope_of}
 use Rattle.sml_expansion.specs.Sources.{IsAt, node_at}
-use Rattle.sml_expansion.specs.Terms.{Term, one, two, node_of}
+use Rattle.sml_expansion.specs.Terms.{Term, two}
 use Rattle.sml_expansion.proofs.Shapes.{node_is, as_one, as_two}
 use Rattle.expand_patterns.specs.Expands.{Binds}
 use Rattle.expand_patterns.proofs.Behind.{if_ok}
