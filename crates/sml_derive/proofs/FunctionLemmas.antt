@@ -23,14 +23,15 @@ use Rattle.sml_expansion.specs.Makings.{Makes, gives, new_names, ◌>>=◌}
 use Rattle.sml_expansion.specs.Labels.{numbers}
 use Rattle.sml_expansion.specs.Bare.{fields, var_pattern, variable_node, variable_nodes, tuple_node, tuple_unless_one, curried, function_node}
 use Rattle.sml_expansion.specs.Types.{type_of}
-use Rattle.sml_expansion.specs.TypeVariables.{numbers_of, in_scope}
+use Rattle.sml_expansion.specs.TypeVariables.{numbers_of, in_scope, tyvars, unguarded, opens}
 use Rattle.sml_expansion.specs.Patterns.{env_of}
 use Rattle.sml_expansion.specs.Clauses.{head, first_clause, arguments_in, function}
 use Rattle.sml_expansion.specs.Expressions.{elsewhere, expressions, functions, both, rec_dec, rec_bindings, decs}
 use Rattle.sml_expansion.proofs.MarkLemmas.{marks_beside}
 use Rattle.sml_expansion.proofs.ScopedLemmas.{oldest_behind}
 use Rattle.sml_derive.specs.Forms.{times, case_end}
-use Rattle.sml_derive.specs.FunctionDeclarations.{opens_in, opened, names_of, function_of, head_of, fns_begin, fn_end, function_begins, function_ends}
+use Rattle.sml_derive.specs.Values.{tyvars_seen, tyvars_unseen}
+use Rattle.sml_derive.specs.FunctionDeclarations.{names_of, function_of, head_of, fns_begin, fn_end, function_begins, function_ends}
 use Rattle.sml_derive.specs.Steps.{scope, made, marked, behind, writes_pattern, seen, unseen, bound_too, leads, Writes, Declares}
 use Rattle.sml_derive.proofs.Counting.{count_beside}
 use Rattle.sml_derive.proofs.Schemas.{Is, same, is, marks_same, one_part, gathered, unmarked}
@@ -192,14 +193,14 @@ rec_single p vs names none h = absurd (omega (arith, h))
 rec_single p vs names (tree n q parts rest) h = refl
 
 pub fun_declares : (s : Source) (p : Place) (vs b : Term) (w0 : Walk) (n : ℕ) (tys : List (ℕ × ℕ)) (names again : List Bound) (w1 w2 w3 w4 w5 w6 w7 w8 : Walk)
-    → Is (opened (opens_in (scope s w0) vs b) w0) w1 → Is (opens_in (scope s w0) vs b w0.made).0 tys
+    → Is (tyvars_seen (opens (scope s w0) (tyvars s.names vs) (unguarded b)) w0) w1 → Is (opens (scope s w0) (tyvars s.names vs) (unguarded b) w0.made).0 tys
     → Is (made (names_of s.names b) w1) w2 → Is (names_of s.names b w1.made).0 names → Is names again
     → Is (seen (env_of names) w2) w3 → Is (marked (Open ∷ []) w3) w4 → Is (marked (Open ∷ []) w4) w5
     → Is (behind (function_of (scope s w5) b) w5) w6 → Is (marked (Close (bare.ValRec (numbers_of tys) (rec_bindings again)) p ∷ []) w6) w7
-    → length w0.bindings.tyvars ≡ n → w8 ≡ record { made = w7.made; bindings = record { values = w7.bindings.values; types = w7.bindings.types; tyvars = oldest n w7.bindings.tyvars }; marks = w7.marks }
+    → length w0.bindings.tyvars ≡ n → w8 ≡ tyvars_unseen n w7
     → Declares (decs (scope s w0) (two node.Fun p vs b)) w0 w8 1
 fun_declares s p vs b w0 n _ _ _ _ _ _ _ _ _ _ w8 same same same same same same same same same same e k =
-    let o = opens_in (scope s w0) vs b w0.made in
+    let o = opens (scope s w0) (tyvars s.names vs) (unguarded b) w0.made in
     let x = names_of s.names b o.1 in
     let y = function_of (within (in_scope (scope s w0) o.0) (env_of x.0)) b x.1 in
     let some = functions_some (within (in_scope (scope s w0) o.0) (env_of x.0)) b x.1 in

@@ -1,30 +1,20 @@
 -- Declarations of functions: what is made, and what is written before and behind the parts.
-use Rattle.std.specs.Prelude.{ℕ, List, [], ◌∷◌, ◌++◌, reverse, codes}
+use Rattle.std.specs.Prelude.{ℕ, List, [], ◌∷◌, ◌++◌}
 use Rattle.smlc_base.specs.declared.place.Place.{Place}
 use Rattle.sml_tree.specs.declared.bare.Node.TheVariants as bare
 use Rattle.sml_expansion.specs.declared.mark.Mark.{Mark}
 use Rattle.sml_expansion.specs.declared.mark.Mark.TheVariants.{Open, Close}
 use Rattle.sml_expansion.specs.declared.scope.Bound.{Bound}
-use Rattle.sml_expansion.specs.declared.walk.Walk.{Walk}
 use Rattle.sml_expansion.specs.Terms.{Term}
 use Rattle.sml_expansion.specs.Forests.{Forest}
 use Rattle.sml_expansion.specs.Marks.{marks}
 use Rattle.sml_expansion.specs.Makings.{Makes, gives, ◌>>=◌, ◌>>◌}
 use Rattle.sml_expansion.specs.Scopes.{Scope}
-use Rattle.sml_expansion.specs.TypeVariables.{tyvars, unguarded, opens}
 use Rattle.sml_expansion.specs.Patterns.{Pattern, under, whole, vars_once}
 use Rattle.sml_expansion.specs.Clauses.{arguments, binds_functions, function}
 use Rattle.sml_expansion.specs.Bare.{var_pattern, variable_nodes, tuple_unless_one, tuple_pattern_unless_one}
 use Rattle.sml_expansion.specs.Expressions.{functions}
 use Rattle.sml_derive.specs.Forms.{times, case_end}
-
--- the type variables of a declaration that names vs and has the bindings b
-abbrev pub opens_in : Scope → Term → Term → Makes (List (ℕ × ℕ))
-opens_in s vs b = opens s (tyvars s.names vs) (unguarded b)
-
--- type variables are made, and come into scope
-abbrev pub opened : Makes (List (ℕ × ℕ)) → Walk → Walk
-opened f w = record { made = (f w.made).1; bindings = record { values = w.bindings.values; types = w.bindings.types; tyvars = reverse (f w.made).0 ++ w.bindings.tyvars }; marks = w.marks }
 
 -- the names of functions, of which none stands twice
 abbrev pub names_of : List (List ℕ) → Term → Makes (List Bound)

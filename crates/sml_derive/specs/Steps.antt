@@ -1,5 +1,5 @@
 -- What a step of the expansion does to its state.
-use Rattle.std.specs.Prelude.{◌≡◌, ℕ, ◌-◌, length, take, [], ◌∷◌, ◌++◌, List, Bool, true, false}
+use Rattle.std.specs.Prelude.{◌≡◌, ℕ, ◌-◌, length, take, [], ◌∷◌, ◌++◌, List}
 use Rattle.sml_expansion.specs.declared.walk.Walk.{Walk}
 use Rattle.sml_expansion.specs.declared.mark.Mark.{Mark}
 use Rattle.sml_expansion.specs.declared.scope.Bindings.{Bindings}

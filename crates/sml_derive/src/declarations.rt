@@ -6,8 +6,9 @@ ghost use Rattle.sml_expansion.specs.Sources.{IsAt};
 ghost use Rattle.sml_expansion.specs.Expressions.{decs};
 ghost use Rattle.sml_derive.specs.Steps.{Declares, scope};
 
+use crate::function_declarations::fun_dec;
 use crate::number::add;
-use crate::parts::{datatype_dec, exception_dec, fun_dec, hide, type_dec};
+use crate::parts::{datatype_dec, exception_dec, hide, type_dec};
 use crate::value_declarations::val_dec;
 use sml_expansion::{Parsed, Walk};
 use sml_tree::TreeNode;

@@ -2,6 +2,7 @@
 
 ghost use Rattle.std.specs.Prelude.{◌≡◌, ◌≢◌, ◌++◌, ◌∷◌, [], IfOk, OnOk};
 ghost use Rattle.smlc_base.specs.declared.place.Place.{Place};
+ghost use Rattle.sml_tree.specs.Parts.{parts_of};
 ghost use Rattle.sml_tree.specs.declared.bare.Node.TheVariants as bare;
 ghost use Rattle.sml_tree.specs.declared.tree_node.TreeNode.TheVariants as node;
 ghost use Rattle.sml_expansion.specs.declared.mark.Mark.TheVariants.{Open, Close};
@@ -14,7 +15,7 @@ ghost use Rattle.sml_expansion.specs.Makings.{gives};
 ghost use Rattle.sml_expansion.specs.TypeVariables.{numbers_of};
 ghost use Rattle.sml_expansion.specs.Expressions.{decs, functions, rec_bindings};
 ghost use Rattle.sml_derive.specs.Forms.{times};
-ghost use Rattle.sml_derive.specs.FunctionDeclarations.{opens_in, opened, names_of, function_of, head_of, fns_begin, fn_end, function_begins, function_ends};
+ghost use Rattle.sml_derive.specs.FunctionDeclarations.{names_of, function_of, head_of, fns_begin, fn_end, function_begins, function_ends};
 ghost use Rattle.sml_derive.specs.Steps.{Declares, Writes, scope, made, marked, behind, writes_pattern};
 
 use crate::expressions::expression;
@@ -22,51 +23,34 @@ use crate::forms;
 use crate::identifiers::Stands;
 use crate::number::{add, one_tree};
 use crate::parts::{see, type_of, unsee};
+use crate::value_declarations::{rec_row, see_tyvars, unsee_tyvars};
 use expand_patterns::{arguments_in, binds_functions, first_clause, head, whole_arguments};
 use expand_types::type_variables::numbers_of;
-use expand_types::{in_scope, opens, tyvars, unguarded};
 use sml_expansion::labels::tuple_fields;
 use sml_expansion::once::vars_once;
 use sml_expansion::{Bound, Parsed, Walk};
 use sml_tree::TreeNode;
-use sml_tree::bare::{Node, RecBinding};
-use smlc_base::{Name, NoMemory, Place, Row};
-use std::alloc::Global;
+use sml_tree::bare::Node;
+use smlc_base::{Name, NoMemory, Place};
 
 /// A `fun` declaration: one tree.
-pub(crate) fn fun_declaration(parsed: &Parsed, walk: &mut Walk, at: u32) -> Result<u32, NoMemory>
+#[cycle(phrases)]
+pub(crate) fn fun_dec(parsed: &Parsed, walk: &mut Walk, at: u32) -> Result<u32, NoMemory>
+    requires { parts_of (node_at parsed.now at) ≡ 2 }
     ensures { IfOk result (λ trees. (p : Place) (vs b : Term) → IsAt parsed.now at (two node.Fun p vs b) → Declares (decs (scope parsed.now walk.old) (two node.Fun p vs b)) walk.old walk.new trees) }
 {
     let place = parsed.place(at);
     let (explicit, body) = parsed.two(at);
     let around = walk.bindings.tyvars.len();
-    let vars = open_tyvars(parsed, walk, explicit, body)?;
+    let vars = see_tyvars(parsed, walk, explicit, body)?;
     let names = function_names(parsed, walk, body)?;
     see(walk, &names)?;
     walk.open()?;
     walk.open()?;
     functions(parsed, walk, body)?;
     close_rec_dec(walk, place, &vars, &names)?;
-    walk.bindings.tyvars.undo_to(around);
+    unsee_tyvars(walk, around);
     Ok(1)
-}
-
-/// The type variables that a declaration binds, with their numbers. They come into scope.
-pub(crate) fn open_tyvars(
-    parsed: &Parsed,
-    walk: &mut Walk,
-    explicit: u32,
-    body: u32,
-) -> Result<Vec<(u32, u32)>, NoMemory>
-    ensures walk { OnOk result ((vs b : Term) → IsAt parsed.now explicit vs → IsAt parsed.now body b → walk.new ≡ opened (opens_in (scope parsed.now walk.old) vs b) walk.old) }
-    ensures vars { IfOk result (λ vars. (vs b : Term) → IsAt parsed.now explicit vs → IsAt parsed.now body b → vars.items ≡ (opens_in (scope parsed.now walk.old) vs b walk.old.made).0) }
-{
-    let alloc = walk.allocator();
-    let named = tyvars(alloc, parsed, explicit)?;
-    let occurring = unguarded(alloc, parsed, body)?;
-    let vars = opens(parsed, &walk.bindings, &mut walk.made, &named, &occurring)?;
-    in_scope(&mut walk.bindings, &vars)?;
-    Ok(vars)
 }
 
 /// The names of functions, of which none stands twice.
@@ -90,26 +74,12 @@ pub(crate) fn close_rec_dec(
     ensures { OnOk result (walk.new ≡ marked (Close (bare.ValRec (numbers_of vars.now) (rec_bindings names.now)) place ∷ []) walk.old) }
 {
     let numbers = numbers_of(walk.allocator(), vars)?;
-    let bindings = rec_bindings(walk.allocator(), names)?;
+    let bindings = rec_row(walk.allocator(), names)?;
     walk.close(Node::ValRec(numbers, bindings), place)
 }
 
-/// Recursive bindings of which no right side is named yet.
-fn rec_bindings(alloc: Global, names: &[Bound]) -> Result<Row<RecBinding>, NoMemory>
-    ensures { IfOk result (λ row. row ≡ rec_bindings names.now) }
-{
-    let mut row = Row::new(alloc);
-    for bound in names {
-        row.push(RecBinding {
-            name: Name(bound.name),
-            right: 0,
-        })?;
-    }
-    Ok(row)
-}
-
 /// The functions of a declaration.
-#[cycle(functions)]
+#[cycle(phrases)]
 fn functions(parsed: &Parsed, walk: &mut Walk, at: u32) -> Result<(), NoMemory>
     ensures { OnOk result ((t : Term) → IsAt parsed.now at t → walk.new ≡ behind (function_of (scope parsed.now walk.old) t) walk.old) }
 {
@@ -123,7 +93,7 @@ fn functions(parsed: &Parsed, walk: &mut Walk, at: u32) -> Result<(), NoMemory>
 }
 
 /// A function.
-#[cycle(functions)]
+#[cycle(phrases)]
 fn function(parsed: &Parsed, walk: &mut Walk, at: u32) -> Result<(), NoMemory>
     requires { node_at parsed.now at ≢ node.MoreFunBinds }
     ensures { OnOk result ((t : Term) → IsAt parsed.now at t → walk.new ≡ behind (function_of (scope parsed.now walk.old) t) walk.old) }
@@ -201,7 +171,7 @@ fn close_fns(walk: &mut Walk, place: Place, count: u32) -> Result<(), NoMemory>
 }
 
 /// The rules of a function's clauses.
-#[cycle(functions)]
+#[cycle(phrases)]
 fn clauses(parsed: &Parsed, walk: &mut Walk, at: u32) -> Result<(), NoMemory>
     ensures { OnOk result ((t : Term) → IsAt parsed.now at t → walk.new ≡ behind (functions (scope parsed.now walk.old) t) walk.old) }
 {
@@ -215,7 +185,7 @@ fn clauses(parsed: &Parsed, walk: &mut Walk, at: u32) -> Result<(), NoMemory>
 }
 
 /// The rule of a clause.
-#[cycle(functions)]
+#[cycle(phrases)]
 fn clause(parsed: &Parsed, walk: &mut Walk, at: u32) -> Result<(), NoMemory>
     requires { node_at parsed.now at ≢ node.MoreClauses }
     ensures { OnOk result ((t : Term) → IsAt parsed.now at t → walk.new ≡ behind (functions (scope parsed.now walk.old) t) walk.old) }

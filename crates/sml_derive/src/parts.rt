@@ -104,13 +104,6 @@ pub fn exception_dec(
     number(shown.len())
 }
 
-/// A `fun` declaration.
-pub fn fun_dec(parsed: &Parsed, walk: &mut Walk, at: u32) -> Result<u32, NoMemory>
-    ensures { IfOk result (λ trees. (p : Place) (vs b : Term) → IsAt parsed.now at (two node.Fun p vs b) → Declares (decs (scope parsed.now walk.old) (two node.Fun p vs b)) walk.old walk.new trees) }
-{
-    Err(NoMemory)
-}
-
 /// The patterns of a list, with the variables that they bind.
 pub fn pattern(
     parsed: &Parsed,

@@ -2,7 +2,7 @@ use Rattle.std.proofs.Common.{◌≡◌, IfOk, OnOk, Bool, ℕ, ◌+◌, ◌-◌
 use Rattle.sml_expansion.specs.Terms.{Term}
 use Rattle.sml_expansion.specs.Sources.{IsAt, node_at}
 use Rattle.sml_expansion.specs.Scopes.{scope_of}
-use Rattle.sml_expansion.specs.Expressions.{expressions, rules, elsewhere, plain_bindings}
+use Rattle.sml_expansion.specs.Expressions.{expressions, rules, elsewhere, plain_bindings, functions}
 use Rattle.sml_expansion.specs.Bare.{sequence_node, list_node}
 use Rattle.sml_derive.specs.Forms.{case_end, cons_end}
 use Rattle.sml_derive.proofs.Spines.{Left, LeftCounted}
@@ -10,6 +10,7 @@ use Rattle.sml_derive.proofs.Sequences.{LeftNest}
 use Rattle.sml_derive.proofs.Binding.{LeftBinds}
 use Rattle.sml_derive.proofs.Declaring.{LeftDecs}
 use Rattle.sml_derive.proofs.Values.{LeftRights}
+use Rattle.sml_derive.specs.FunctionDeclarations.{function_of}
 use Rattle.sml_derive.proofs.+phrases.Given as goal
 
 abbrev pub decreases-expressions::beside : goal.decreases-expressions::beside
@@ -131,3 +132,36 @@ invariant-value_declarations::rec_rights-loop-behind l = record {
 
 abbrev pub decreases-value_declarations::rec_rights-loop-behind : goal.decreases-value_declarations::rec_rights-loop-behind
 decreases-value_declarations::rec_rights-loop-behind l = l.next
+
+abbrev pub decreases-function_declarations::functions : goal.decreases-function_declarations::functions
+decreases-function_declarations::functions l = l.at * 4 + 3
+
+abbrev pub decreases-function_declarations::function : goal.decreases-function_declarations::function
+decreases-function_declarations::function l = l.at * 4 + 2
+
+abbrev pub decreases-function_declarations::clauses : goal.decreases-function_declarations::clauses
+decreases-function_declarations::clauses l = l.at * 4 + 1
+
+abbrev pub decreases-function_declarations::clause : goal.decreases-function_declarations::clause
+decreases-function_declarations::clause l = l.at * 4
+
+abbrev pub invariant-function_declarations::functions-loop-first : goal.invariant-function_declarations::functions-loop-first
+invariant-function_declarations::functions-loop-first l = record {
+  left : (t : Term) → IsAt l.parsed l.fn.at t → Left l.parsed (λ b. function_of (scope_of l.parsed.names b)) t l.fn.walk l.walk l.next;
+  below : l.next ≤ l.fn.at;
+}
+
+abbrev pub decreases-function_declarations::functions-loop-first : goal.decreases-function_declarations::functions-loop-first
+decreases-function_declarations::functions-loop-first l = l.next
+
+abbrev pub invariant-function_declarations::clauses-loop-first : goal.invariant-function_declarations::clauses-loop-first
+invariant-function_declarations::clauses-loop-first l = record {
+  left : (t : Term) → IsAt l.parsed l.fn.at t → Left l.parsed (λ b. functions (scope_of l.parsed.names b)) t l.fn.walk l.walk l.next;
+  below : l.next ≤ l.fn.at;
+}
+
+abbrev pub decreases-function_declarations::clauses-loop-first : goal.decreases-function_declarations::clauses-loop-first
+decreases-function_declarations::clauses-loop-first l = l.next
+
+abbrev pub decreases-function_declarations::fun_dec : goal.decreases-function_declarations::fun_dec
+decreases-function_declarations::fun_dec l = l.at * 4 + 1
