@@ -1,5 +1,5 @@
 -- What a step of the expansion does to its state.
-use Rattle.std.specs.Prelude.{◌≡◌, ℕ, ◌-◌, length, take, [], ◌∷◌, ◌++◌, List, Bool, true, false}
+use Rattle.std.specs.Prelude.{◌≡◌, ℕ, ◌-◌, length, take, [], ◌∷◌, ◌++◌, List}
 use Rattle.sml_expansion.specs.declared.walk.Walk.{Walk}
 use Rattle.sml_expansion.specs.declared.mark.Mark.{Mark}
 use Rattle.sml_expansion.specs.declared.scope.Bindings.{Bindings}
@@ -14,6 +14,7 @@ use Rattle.sml_expansion.specs.Patterns.{Pattern}
 use Rattle.sml_expansion.specs.Bindings.{Decs}
 use Rattle.sml_expansion.specs.declared.mark.Mark.TheVariants.{Open, Close}
 use Rattle.sml_expansion.specs.Expressions.{Position, function_part, elsewhere}
+use Rattle.expand_types.specs.Effects as effects
 use Rattle.sml_derive.specs.declared.identifiers.Stands.{Stands}
 use Rattle.sml_derive.specs.declared.identifiers.Stands.TheVariants.{Applied, Elsewhere}
 
@@ -61,8 +62,7 @@ forgotten n m w = record { made = w.made; bindings = record { values = oldest n 
 
 -- each tree with one more mark before it, for the node that it stands under
 abbrev pub leads : Forest → List Mark
-leads none = []
-leads (tree n p parts rest) = Open ∷ Open ∷ (marks parts ++ Close n p ∷ leads rest)
+leads f = effects.leads f
 
 -- declarations are made and written, and what they bind is in scope
 abbrev pub led : Makes Decs → Walk → Walk

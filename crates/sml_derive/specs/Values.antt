@@ -1,5 +1,5 @@
 -- Value declarations.
-use Rattle.std.specs.Prelude.{◌≡◌, ℕ, List, [], ◌∷◌, ◌++◌, reverse, map}
+use Rattle.std.specs.Prelude.{◌≡◌, ℕ, List, ◌++◌, reverse, map}
 use Rattle.smlc_base.specs.declared.place.Place.{Place}
 use Rattle.sml_tree.specs.declared.bare.Node.{Node}
 use Rattle.sml_tree.specs.declared.bare.Node.TheVariants as bare

@@ -20,3 +20,13 @@ pub(crate) fn one_tree(trees: u32) -> Result<(), NoMemory>
 {
     if trees == 1 { Ok(()) } else { Err(NoMemory) }
 }
+
+/// How many there are. There is no memory for more trees than numbers.
+pub(crate) fn number(trees: usize) -> Result<u32, NoMemory>
+    ensures { IfOk result (λ number. number ≡ trees) }
+{
+    match u32::try_from(trees) {
+        Ok(number) => Ok(number),
+        Err(_) => Err(NoMemory),
+    }
+}

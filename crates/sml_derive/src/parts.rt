@@ -11,6 +11,7 @@ ghost use Rattle.sml_expansion.specs.Expressions.{decs};
 ghost use Rattle.sml_expansion.specs.Patterns.{whole, patterns, env_of};
 ghost use Rattle.sml_derive.specs.Steps.{scope, made, writes_pattern, seen, unseen, forgotten, declared, hidden, Binds, Declares};
 
+use crate::number::number;
 use sml_expansion::{Bound, Parsed, Walk};
 use sml_tree::bare::Lab;
 use smlc_base::{NoMemory, Place};
@@ -80,14 +81,14 @@ pub fn hide(
 pub fn type_dec(parsed: &Parsed, walk: &mut Walk, place: Place, at: u32) -> Result<(), NoMemory>
     ensures { OnOk result ((t : Term) → IsAt parsed.now at t → walk.new ≡ declared (type_dec (scope parsed.now walk.old) place t) walk.old) }
 {
-    Err(NoMemory)
+    expand_types::type_dec(parsed, walk, place, at)
 }
 
 /// A `datatype` declaration.
 pub fn datatype_dec(parsed: &Parsed, walk: &mut Walk, place: Place, at: u32) -> Result<(), NoMemory>
     ensures { OnOk result ((t : Term) → IsAt parsed.now at t → walk.new ≡ declared (datatype_dec (scope parsed.now walk.old) place t) walk.old) }
 {
-    Err(NoMemory)
+    expand_types::datatype_dec(parsed, walk, place, at)
 }
 
 /// An `exception` declaration.
@@ -99,7 +100,8 @@ pub fn exception_dec(
 ) -> Result<u32, NoMemory>
     ensures { IfOk result (λ trees. (t : Term) → IsAt parsed.now at t → Declares (exception_dec (scope parsed.now walk.old) place t) walk.old walk.new trees) }
 {
-    Err(NoMemory)
+    let shown = expand_types::exception_dec(parsed, walk, place, at)?;
+    number(shown.len())
 }
 
 /// The patterns of a list, with the variables that they bind.

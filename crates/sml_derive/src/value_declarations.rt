@@ -95,7 +95,7 @@ pub(crate) fn begin(walk: &mut Walk) -> Result<usize, NoMemory>
     Ok(from)
 }
 
-/// A declaration behind its parts. If it has none, there is no declaration.
+/// A declaration behind its parts. If nothing stands behind the two marks that begin it, there is no declaration, and they are taken back.
 pub(crate) fn finish(
     walk: &mut Walk,
     from: usize,
