@@ -12,6 +12,8 @@ mod outline;
 mod pairs;
 mod parts;
 mod program;
+#[cfg(test)]
+mod tests;
 mod top_trees;
 
 pub use program::bare;
