@@ -13,6 +13,8 @@ mod outline;
 mod pairs;
 mod parts;
 mod program;
+#[cfg(test)]
+mod tests;
 mod top_trees;
 mod value_declarations;
 
