@@ -6,7 +6,7 @@ use Rattle.sml_lexer.specs.declared.lexed.Lexed.{Lexed}
 use Rattle.sml_lexer.specs.Programs.{IsLexed, IsRefused}
 use Rattle.sml_fixity.specs.Parse.{IsParse}
 use Rattle.sml_fixity.specs.Parse as syntax
-use Rattle.sml_derive.specs.Answer as bindings
+use Rattle.sml_expansion.specs.Whole as bindings
 use Rattle.sml_tree.specs.declared.tree.Tree.{Tree}
 use Rattle.smlc_top.specs.Front.{by_tokens, by_syntax, by_bindings, Fails}
 

@@ -8,8 +8,8 @@ use Rattle.sml_lexer.specs.Programs.{IsLexed}
 use Rattle.sml_lexer.specs.Files as tokens
 use Rattle.sml_fixity.specs.Parse.{IsParse}
 use Rattle.sml_fixity.specs.Parse as syntax
-use Rattle.sml_derive.specs.Answer.{IsExpansion}
-use Rattle.sml_derive.specs.Answer as bindings
+use Rattle.sml_expansion.specs.Whole.{IsExpansion}
+use Rattle.sml_expansion.specs.Whole as bindings
 use Rattle.sml_tree.specs.declared.tree.Tree.{Tree}
 use Rattle.sml_tree.specs.declared.bare.Bare.{Bare}
 
