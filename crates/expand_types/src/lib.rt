@@ -8,8 +8,6 @@ pub mod datatypes;
 pub mod exceptions;
 pub mod labels;
 pub mod right_sides;
-#[cfg(test)]
-mod tests;
 pub mod type_declarations;
 pub mod type_variables;
 pub mod types;
