@@ -208,6 +208,14 @@ const PROGRAMS: &[Case] = &[
         status: 2,
     },
     Case {
+        files: &["datatype t = A | A"],
+        store: &[],
+        out: &[],
+        written: "",
+        error: "f.sml:1:18: refused 11 BadBinding\n",
+        status: 2,
+    },
+    Case {
         files: &["val x = y"],
         store: &[],
         out: &[],
