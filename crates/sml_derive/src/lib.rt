@@ -17,8 +17,6 @@ mod outline;
 mod pairs;
 mod parts;
 mod program;
-#[cfg(test)]
-mod tests;
 mod top_trees;
 mod value_declarations;
 
