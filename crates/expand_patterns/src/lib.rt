@@ -16,4 +16,4 @@ pub use clauses::binds_functions;
 pub use force::put_in_force;
 pub use heads::{arguments, arguments_in, first_clause, head, name_of, whole_arguments};
 pub use patterns::whole;
-pub use recursive::{none_fixed, rec_names};
+pub use recursive::rec_names;

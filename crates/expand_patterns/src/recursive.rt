@@ -4,11 +4,11 @@ ghost use Rattle.std.specs.Prelude.{◌≡◌, [], ◌∷◌, OnOk};
 ghost use Rattle.smlc_base.specs.declared.refusal.Refusal.TheVariants as refusal;
 ghost use Rattle.sml_expansion.specs.Terms.{Term, place_at};
 ghost use Rattle.sml_expansion.specs.Sources.{IsAt};
-ghost use Rattle.sml_expansion.specs.Bindings.{rec_ident, rec_name, rec_names, none_fixed};
+ghost use Rattle.sml_expansion.specs.Bindings.{rec_ident, rec_name, rec_names};
 ghost use Rattle.expand_patterns.specs.Expands.{Binds};
 ghost use Rattle.expand_patterns.specs.Names.{is_vid, refused_vars};
 
-use crate::identifiers::{binds, no_long, not_fixed};
+use crate::identifiers::{binds, no_long};
 use crate::patterns::patterns;
 use sml_expansion::{Bound, Ident, Parsed, Walk};
 use sml_tree::TreeNode;
@@ -114,14 +114,5 @@ pub fn rec_names(
             }
             _ => return Ok(()),
         }
-    }
-}
-
-/// None of them is one of the identifiers that aren't bound again.
-pub fn none_fixed(parsed: &Parsed, walk: &mut Walk, idents: &[Ident])
-    ensures { walk.new ≡ record walk.old { made = (none_fixed parsed.now.names idents.now walk.old.made).1 } }
-{
-    for ident in idents {
-        not_fixed(parsed, walk, *ident);
     }
 }

@@ -14,9 +14,10 @@ use Rattle.sml_expansion.specs.Scopes.{Scope, ident}
 use Rattle.sml_expansion.specs.Types.{type_of}
 use Rattle.sml_expansion.specs.TypeVariables.{tyvars, params, only_params, numbers_of}
 use Rattle.sml_expansion.specs.Bindings.{TypeDecs, type_bindings}
-use Rattle.sml_expansion.proofs.Shapes.{as_two, as_three, node_is}
+use Rattle.sml_expansion.proofs.Shapes.{as_three, node_is}
 use Rattle.expand_types.specs.Effects.{types_behind, one_type_binding}
-use Rattle.expand_types.proofs.Steps.{behind, Pair, Triple}
+use Rattle.expand_types.proofs.Steps.{behind, Triple}
+use Rattle.expand_types.proofs.SpineLemmas.{Does}
 
 pub assoc : (x y z : TypeDecs) → types_behind (types_behind x y) z ≡ types_behind x (types_behind y z)
 assoc x y z =
@@ -47,40 +48,7 @@ none s (three n p a b c) m e f = none_three s n p a b c m f
 none s (four n p a b c d) m e f = refl
 
 module _ (src : Source) (s : Scope) where
-  -- what is done behind what was
-  abbrev pub Does : ℕ → Made → TypeDecs → Made → TypeDecs → Type 0
-  Does i m before n after = (t : Term) → IsAt src i t → (x : TypeDecs) × Runs (type_bindings s t) m x n × (after ≡ types_behind before x)
-
-  -- what is left at a node
-  abbrev pub Left : ℕ → Made → TypeDecs → ℕ → Made → TypeDecs → Type 0
-  Left i k before r m after = (t : Term) → IsAt src i t → (u : Term) × IsAt src r u × ((y : TypeDecs) (n : Made) → Runs (type_bindings s u) m y n → (z : TypeDecs) × Runs (type_bindings s t) k z n × (types_behind after y ≡ types_behind before z))
-
-  pub left_on : (i r j l : ℕ) (k m n : Made) (before after more : TypeDecs) → Left i k before r m after → node.MoreTypBinds ≡ node_at src r → Pair src r j l → Does j m after n more → Left i k before l n more
-  left_on i r j l k m n before after more left e parts does t w =
-      let u = left t w in
-      as_two src r u.0 node.MoreTypBinds u.1 (sym e) refl (λ u. ((y : TypeDecs) (o : Made) → Runs (type_bindings s u) m y o → (z : TypeDecs) × Runs (type_bindings s t) k z o × (types_behind after y ≡ types_behind before z))
-      → (v : Term) × IsAt src l v × ((y : TypeDecs) (o : Made) → Runs (type_bindings s v) n y o → (z : TypeDecs) × Runs (type_bindings s t) k z o × (types_behind more y ≡ types_behind before z)))
-      (λ p a b at. λ run.
-      let inside = parts node.MoreTypBinds p a b at in
-      let x = does a inside.0 in (
-        b,
-        inside.1,
-        λ y o further.
-            let both : Runs (type_bindings s (two node.MoreTypBinds p a b)) m (types_behind x.0 y) o =
-            behind (type_bindings s a) (λ q h. (types_behind q (type_bindings s b h).0, (type_bindings s b h).1)) m n o x.0 (types_behind x.0 y) x.1 (ap (λ r. (types_behind x.0 r.0, r.1)) further) in
-            let z = run (types_behind x.0 y) o both in
-            (z.0, z.1, ap (λ q. types_behind q y) x.2 ∙ assoc after x.0 y ∙ z.2),
-      ))
-      u.2
-
-  pub left_end : (i r : ℕ) (k m n : Made) (before after all : TypeDecs) → Left i k before r m after → Does r m after n all → Does i k before n all
-  left_end i r k m n before after all left does t w =
-      let u = left t w in
-      let y = does u.0 u.1 in
-      let z = u.2 y.0 n y.1 in
-      (z.0, z.1, y.2 ∙ z.2)
-
-  pub does_none : (i : ℕ) (m : Made) (b : TypeDecs) → node_at src i ≢ node.MoreTypBinds → node_at src i ≢ node.TypBind → Does i m b m b
+  pub does_none : (i : ℕ) (m : Made) (b : TypeDecs) → node_at src i ≢ node.MoreTypBinds → node_at src i ≢ node.TypBind → Does src (λ k. type_bindings s) types_behind 0 i m b m b
   does_none i m b e f t w =
       let is : node_at src i ≡ node_of t = node_is src i t w in (
         record { bindings = []; idents = []; types = [] },
@@ -91,7 +59,7 @@ module _ (src : Source) (s : Scope) where
   pub does_one : (i ja jb jc : ℕ) (k l m n : Made) (before after : TypeDecs) (id : Ident) (named : List Ident) (vars : List (ℕ × ℕ)) (ty number : ℕ) (numbers : List ℕ) → node.TypBind ≡ node_at src i → Triple src i ja jb jc
       → ((t : Term) → IsAt src jb t → id ≡ ident s.names t) → ((t : Term) → IsAt src ja t → named ≡ tyvars s.names t) → Runs (params s.names named) k vars l
       → ((t : Term) → IsAt src jc t → Runs (type_of (only_params s vars) t) l ty m) → Runs new_abbreviation m number n → numbers ≡ numbers_of vars
-      → after ≡ types_behind before (one_type_binding id (record { number = number; params = numbers; ty = ty })) → Does i k before n after
+      → after ≡ types_behind before (one_type_binding id (record { number = number; params = numbers; ty = ty })) → Does src (λ k. type_bindings s) types_behind 0 i k before n after
   does_one i ja jb jc k l m n before after id named vars ty number numbers e parts is_id is_named ps is_ty ks is_numbers is t w = as_three src i t node.TypBind w (sym e) refl (λ t. (x : TypeDecs) × Runs (type_bindings s t) k x n × (after ≡ types_behind before x)) (λ p a b c at.
       let inside = parts node.TypBind p a b c at in
       let x : TypeDecs = one_type_binding (ident s.names b) (record { number = number; params = numbers_of vars; ty = ty }) in

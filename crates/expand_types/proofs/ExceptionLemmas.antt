@@ -1,5 +1,5 @@
 -- Exception bindings, one behind the other.
-use Rattle.std.proofs.Common.{◌≡◌, ◌≢◌, ℕ, suc, ◌+◌, Bool, Option, Some, None, List, [], ◌∷◌, ◌++◌, length, refl, sym, ap, ◌∙◌, subst, append_assoc, arith}
+use Rattle.std.proofs.Common.{◌≡◌, ◌≢◌, ℕ, ◌+◌, Bool, Option, Some, None, List, [], ◌∷◌, ◌++◌, length, refl, sym, ap, ◌∙◌, subst, append_assoc, arith}
 use Rattle.sml_tree.specs.declared.bare.Con.TheVariants as con
 use Rattle.sml_expansion.specs.declared.meaning.Meaning.TheVariants.{Constructor}
 use Rattle.std.proofs.lemmas.List.{append-nil, length-append}
@@ -23,6 +23,7 @@ use Rattle.sml_expansion.proofs.Shapes.{as_one, as_two, node_is}
 use Rattle.sml_expansion.specs.declared.mark.Mark.TheVariants.{Open, Close}
 use Rattle.expand_types.specs.Effects.{leads, SoFar, exceptions_behind}
 use Rattle.expand_types.proofs.Steps.{behind, Part, Pair}
+use Rattle.expand_types.proofs.SpineLemmas.{Does}
 
 abbrev pub joined : ExDecs → ExDecs → ExDecs
 joined x y = record { forest = x.forest & y.forest; shown = x.shown ++ y.shown; idents = x.idents ++ y.idents; values = y.values ++ x.values }
@@ -89,46 +90,13 @@ module _ (src : Source) (s : Scope) (p : Place) where
   none (three n q a b c) m e f g h = refl
   none (four n q a b c d) m e f g h = refl
 
-  -- what is done behind what was
-  abbrev pub Does : ℕ → Made → SoFar → Made → SoFar → Type 0
-  Does i m before n after = (t : Term) → IsAt src i t → (x : ExDecs) × Runs (exceptions s p t) m x n × (after ≡ exceptions_behind before x)
-
-  -- what is left at a node
-  abbrev pub Left : ℕ → Made → SoFar → ℕ → Made → SoFar → Type 0
-  Left i k before r m after = (t : Term) → IsAt src i t → (u : Term) × IsAt src r u × ((y : ExDecs) (n : Made) → Runs (exceptions s p u) m y n → (z : ExDecs) × Runs (exceptions s p t) k z n × (exceptions_behind after y ≡ exceptions_behind before z))
-
-  pub left_on : (i r j l : ℕ) (k m n : Made) (before after more : SoFar) → Left i k before r m after → node.MoreExBinds ≡ node_at src r → Pair src r j l → Does j m after n more → Left i k before l n more
-  left_on i r j l k m n before after more left e parts does t w =
-      let u = left t w in
-      as_two src r u.0 node.MoreExBinds u.1 (sym e) refl (λ u. ((y : ExDecs) (o : Made) → Runs (exceptions s p u) m y o → (z : ExDecs) × Runs (exceptions s p t) k z o × (exceptions_behind after y ≡ exceptions_behind before z))
-      → (v : Term) × IsAt src l v × ((y : ExDecs) (o : Made) → Runs (exceptions s p v) n y o → (z : ExDecs) × Runs (exceptions s p t) k z o × (exceptions_behind more y ≡ exceptions_behind before z)))
-      (λ q a b at. λ run.
-      let inside = parts node.MoreExBinds q a b at in
-      let x = does a inside.0 in (
-        b,
-        inside.1,
-        λ y o further.
-            let both : Runs (exceptions s p (two node.MoreExBinds q a b)) m (joined x.0 y) o =
-            behind (exceptions s p a) (λ d h. (joined d (exceptions s p b h).0, (exceptions s p b h).1)) m n o x.0 (joined x.0 y) x.1 (ap (λ r. (joined x.0 r.0, r.1)) further) in
-            let z = run (joined x.0 y) o both in
-            (z.0, z.1, ap (λ d. exceptions_behind d y) x.2 ∙ assoc after x.0 y ∙ z.2),
-      ))
-      u.2
-
-  pub left_end : (i r : ℕ) (k m n : Made) (before after all : SoFar) → Left i k before r m after → Does r m after n all → Does i k before n all
-  left_end i r k m n before after all left does t w =
-      let u = left t w in
-      let y = does u.0 u.1 in
-      let z = u.2 y.0 n y.1 in
-      (z.0, z.1, y.2 ∙ z.2)
-
-  pub does_none : (i : ℕ) (m : Made) (b : SoFar) → node_at src i ≢ node.MoreExBinds → node_at src i ≢ node.ExBind → node_at src i ≢ node.ExBindOf → node_at src i ≢ node.ExBindIs → Does i m b m b
+  pub does_none : (i : ℕ) (m : Made) (b : SoFar) → node_at src i ≢ node.MoreExBinds → node_at src i ≢ node.ExBind → node_at src i ≢ node.ExBindOf → node_at src i ≢ node.ExBindIs → Does src (λ k. exceptions s p) exceptions_behind 0 i m b m b
   does_none i m b e f g h t w =
       let is : node_at src i ≡ node_of t = node_is src i t w in
       (no_exceptions, none t m (subst (λ q. q ≢ node.MoreExBinds) is e) (subst (λ q. q ≢ node.ExBind) is f) (subst (λ q. q ≢ node.ExBindOf) is g) (subst (λ q. q ≢ node.ExBindIs) is h), unit b)
 
   pub does_new : (i j : ℕ) (m n o : Made) (before after : SoFar) (id : Ident) (text : List ℕ) (x : ℕ) → node.ExBind ≡ node_at src i → Part src i j → ((t : Term) → IsAt src j t → id ≡ ident s.names t) → text ≡ text_of s.names id.key
-      → Runs (new_name text) m x n → o ≡ n → after ≡ exceptions_behind before (exception_of p id x None) → Does i m before o after
+      → Runs (new_name text) m x n → o ≡ n → after ≡ exceptions_behind before (exception_of p id x None) → Does src (λ k. exceptions s p) exceptions_behind 0 i m before o after
   does_new i j m n o before after id text x e part is_id is_text run last is t w = as_one src i t node.ExBind w (sym e) refl (λ t. (y : ExDecs) × Runs (exceptions s p t) m y o × (after ≡ exceptions_behind before y)) (λ q a at.
       let same : id ≡ ident s.names a = is_id a (part node.ExBind q a at) in
       let spelled : text ≡ text_of s.names (ident s.names a).key = is_text ∙ ap (λ (d : Ident). text_of s.names d.key) same in (
@@ -138,7 +106,7 @@ module _ (src : Source) (s : Scope) (p : Place) where
       ))
 
   pub does_of : (i j l : ℕ) (m n o r : Made) (before after : SoFar) (id : Ident) (text : List ℕ) (x ty : ℕ) → node.ExBindOf ≡ node_at src i → Pair src i j l → ((t : Term) → IsAt src j t → id ≡ ident s.names t) → text ≡ text_of s.names id.key
-      → Runs (new_name text) m x n → ((t : Term) → IsAt src l t → Runs (type_of s t) n ty o) → r ≡ o → after ≡ exceptions_behind before (exception_of p id x (Some ty)) → Does i m before r after
+      → Runs (new_name text) m x n → ((t : Term) → IsAt src l t → Runs (type_of s t) n ty o) → r ≡ o → after ≡ exceptions_behind before (exception_of p id x (Some ty)) → Does src (λ k. exceptions s p) exceptions_behind 0 i m before r after
   does_of i j l m n o r before after id text x ty e parts is_id is_text run is_ty last is t w = as_two src i t node.ExBindOf w (sym e) refl (λ t. (y : ExDecs) × Runs (exceptions s p t) m y r × (after ≡ exceptions_behind before y)) (λ q a b at.
       let inside = parts node.ExBindOf q a b at in
       let same : id ≡ ident s.names a = is_id a inside.0 in
@@ -150,7 +118,7 @@ module _ (src : Source) (s : Scope) (p : Place) where
       ))
 
   pub does_is : (i j l : ℕ) (m n o r : Made) (before after : SoFar) (id old : Ident) (text : List ℕ) (x : ℕ) (meaning : Option Meaning) → node.ExBindIs ≡ node_at src i → Pair src i j l → ((t : Term) → IsAt src j t → id ≡ ident s.names t) → ((t : Term) → IsAt src l t → old ≡ ident s.names t)
-      → text ≡ text_of s.names id.key → Runs (new_name text) m x n → meaning ≡ meaning_of s old.key → Runs (breaks (unbound (meaning_of s old.key) old)) n tt o → r ≡ o → after ≡ exceptions_behind before (renaming_of p id x meaning) → Does i m before r after
+      → text ≡ text_of s.names id.key → Runs (new_name text) m x n → meaning ≡ meaning_of s old.key → Runs (breaks (unbound (meaning_of s old.key) old)) n tt o → r ≡ o → after ≡ exceptions_behind before (renaming_of p id x meaning) → Does src (λ k. exceptions s p) exceptions_behind 0 i m before r after
   does_is i j l m n o r before after id old text x meaning e parts is_id is_old is_text run is_meaning broken last is t w = as_two src i t node.ExBindIs w (sym e) refl (λ t. (y : ExDecs) × Runs (exceptions s p t) m y r × (after ≡ exceptions_behind before y)) (λ q a b at.
       let inside = parts node.ExBindIs q a b at in
       let same : id ≡ ident s.names a = is_id a inside.0 in

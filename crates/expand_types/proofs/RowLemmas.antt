@@ -9,6 +9,7 @@ use Rattle.sml_expansion.specs.Terms.{Term, leaf, one, two, three, four, node_of
 use Rattle.sml_expansion.specs.Sources.{Source, IsAt, node_at}
 use Rattle.sml_expansion.specs.Types.{labels}
 use Rattle.sml_expansion.proofs.Shapes.{node_is}
+use Rattle.expand_types.specs.declared.labels.RowForm.{RowForm}
 use Rattle.expand_types.specs.declared.labels.RowForm.TheVariants.{Rows, FirstOfOne, FirstOfTwo, FirstOfThree, Here}
 use Rattle.expand_types.specs.Forms.{row_form}
 use Rattle.expand_types.proofs.Steps.{parts_in, as_many}
@@ -38,28 +39,38 @@ first_three node.TypedPunRowAs e = refl
 first_three _ e = cc
 
 module _ (names : List (List ℕ)) where
-  -- and their labels
+  -- what the labels of a node with such parts are
+  abbrev Labels : RowForm → TreeNode → Type 0
+  Labels Rows n = (p : Place) (a b : Term) → labels names (two n p a b) ≡ labels names a ++ labels names b
+  Labels FirstOfOne n = (p : Place) (a : Term) → labels names (one n p a) ≡ labels names a
+  Labels FirstOfTwo n = (p : Place) (a b : Term) → labels names (two n p a b) ≡ labels names a
+  Labels FirstOfThree n = (p : Place) (a b c : Term) → labels names (three n p a b c) ≡ labels names a
+  Labels Here n = Unit {0}
+
+  by_form : (n : TreeNode) → Labels (row_form n) n
+  by_form node.MoreRows = λ p a b. refl
+  by_form node.MorePatRows = λ p a b. refl
+  by_form node.MoreTyRows = λ p a b. refl
+  by_form node.PunRow = λ p a. refl
+  by_form node.Row = λ p a b. refl
+  by_form node.PatRow = λ p a b. refl
+  by_form node.TypedPunRow = λ p a b. refl
+  by_form node.PunRowAs = λ p a b. refl
+  by_form node.TyRow = λ p a b. refl
+  by_form node.TypedPunRowAs = λ p a b c. refl
+  by_form _ = tt
+
   pub of_rows : (n : TreeNode) → row_form n ≡ Rows → (p : Place) (a b : Term) → labels names (two n p a b) ≡ labels names a ++ labels names b
-  of_rows node.MoreRows e p a b = refl
-  of_rows node.MorePatRows e p a b = refl
-  of_rows node.MoreTyRows e p a b = refl
-  of_rows _ e p a b = cc
+  of_rows n e = subst (λ f. Labels f n) e (by_form n)
 
   pub of_one : (n : TreeNode) → row_form n ≡ FirstOfOne → (p : Place) (a : Term) → labels names (one n p a) ≡ labels names a
-  of_one node.PunRow e p a = refl
-  of_one _ e p a = cc
+  of_one n e = subst (λ f. Labels f n) e (by_form n)
 
   pub of_two : (n : TreeNode) → row_form n ≡ FirstOfTwo → (p : Place) (a b : Term) → labels names (two n p a b) ≡ labels names a
-  of_two node.Row e p a b = refl
-  of_two node.PatRow e p a b = refl
-  of_two node.TypedPunRow e p a b = refl
-  of_two node.PunRowAs e p a b = refl
-  of_two node.TyRow e p a b = refl
-  of_two _ e p a b = cc
+  of_two n e = subst (λ f. Labels f n) e (by_form n)
 
   pub of_three : (n : TreeNode) → row_form n ≡ FirstOfThree → (p : Place) (a b c : Term) → labels names (three n p a b c) ≡ labels names a
-  of_three node.TypedPunRowAs e p a b c = refl
-  of_three _ e p a b c = cc
+  of_three n e = subst (λ f. Labels f n) e (by_form n)
 
   here_one : (n : TreeNode) (p : Place) (a : Term) → parts_of n ≡ 1 → row_form n ≡ Here → labels names (one n p a) ≡ labels names (leaf n p)
   here_one node.PunRow p a k e = cc

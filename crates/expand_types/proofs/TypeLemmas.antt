@@ -1,5 +1,5 @@
 -- What a walk over a type does at each node is what its definition says.
-use Rattle.std.proofs.Common.{◌≡◌, ◌≢◌, ℕ, true, false, List, [], ◌++◌, refl, sym, ap, ◌∙◌, subst, append_assoc}
+use Rattle.std.proofs.Common.{◌≡◌, ◌≢◌, ℕ, Bool, true, false, List, [], ◌++◌, refl, sym, ap, ◌∙◌, subst, append_assoc}
 use Rattle.smlc_base.specs.declared.place.Place.{Place}
 use Rattle.sml_tree.specs.declared.tree_node.TreeNode.{TreeNode}
 use Rattle.sml_tree.specs.declared.tree_node.TreeNode.TheVariants as node
@@ -57,11 +57,18 @@ module _ (src : Source) (s : Scope) where
       behind (both_lists (types s a) (types s b)) (λ q. alone (constructor_at s (ident s.names c) q)) m l n (x ++ y) z all (subst (λ q. Runs (alone (constructor_at s q (x ++ y))) l z n) (d c inside.2) args))
 
   -- lists
+  abbrev Lists : Bool → TreeNode → Type 0
+  Lists true n = (p : Place) (a b : Term) → types s (two n p a b) ≡ both_lists (types s a) (types s b)
+  Lists false n = Unit {0}
+
+  lists : (n : TreeNode) → Lists (is_type_list n) n
+  lists node.MoreTyRows = λ p a b. refl
+  lists node.MoreFactors = λ p a b. refl
+  lists node.MoreTys = λ p a b. refl
+  lists _ = tt
+
   listed : (n : TreeNode) (p : Place) (a b : Term) → is_type_list n ≡ true → types s (two n p a b) ≡ both_lists (types s a) (types s b)
-  listed node.MoreTyRows p a b e = refl
-  listed node.MoreFactors p a b e = refl
-  listed node.MoreTys p a b e = refl
-  listed _ p a b e = cc
+  listed n p a b e = subst (λ o. Lists o n) e (lists n) p a b
 
   pub list_parts : (n : TreeNode) → is_type_list n ≡ true → parts_of n ≡ 2
   list_parts node.MoreTyRows e = refl

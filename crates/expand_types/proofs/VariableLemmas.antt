@@ -1,5 +1,5 @@
 -- Type variables by what their nodes are.
-use Rattle.std.proofs.Common.{◌≡◌, ◌≢◌, ◌<◌, ◌≤◌, ℕ, true, false, List, ◌++◌, refl, sym, ap, ◌∙◌, subst, rules, arith, append_assoc}
+use Rattle.std.proofs.Common.{◌≡◌, ◌≢◌, ◌<◌, ◌≤◌, ℕ, zero, suc, Bool, true, false, List, ◌++◌, refl, sym, ap, ◌∙◌, subst, rules, arith, append_assoc}
 use Rattle.std.specs.Prelude.{nat_le, nat_lt}
 use Rattle.smlc_base.specs.declared.place.Place.{Place}
 use Rattle.sml_tree.specs.declared.tree_node.TreeNode.{TreeNode}
@@ -67,30 +67,30 @@ open_four : (n : TreeNode) (p : Place) (a b c d : Term) → unguarded (four n p 
 open_four node.Val p a b c d = refl
 open_four _ p a b c d = refl
 
-closed_one : (n : TreeNode) (p : Place) (a : Term) → parts_of n ≡ 1 → opens_up n ≡ false → unguarded (one n p a) ≡ unguarded (leaf n p)
-closed_one node.Type p a k e = refl
-closed_one node.Datatype p a k e = refl
-closed_one _ p a k e = cc
+-- what a node with so many parts is, if its type variables are its own
+abbrev Guards : ℕ → Bool → TreeNode → Type 0
+Guards (suc zero) false n = (p : Place) (a : Term) → unguarded (one n p a) ≡ unguarded (leaf n p)
+Guards (suc (suc zero)) false n = (p : Place) (a b : Term) → unguarded (two n p a b) ≡ unguarded (leaf n p)
+Guards (suc (suc (suc zero))) false n = (p : Place) (a b c : Term) → unguarded (three n p a b c) ≡ unguarded (leaf n p)
+Guards (suc (suc (suc (suc zero)))) false n = (p : Place) (a b c d : Term) → unguarded (four n p a b c d) ≡ unguarded (leaf n p)
+Guards _ _ n = Unit {0}
 
-closed_two : (n : TreeNode) (p : Place) (a b : Term) → parts_of n ≡ 2 → opens_up n ≡ false → unguarded (two n p a b) ≡ unguarded (leaf n p)
-closed_two node.Val p a b k e = refl
-closed_two node.Fun p a b k e = refl
-closed_two _ p a b k e = cc
+guarded : (n : TreeNode) → Guards (parts_of n) (opens_up n) n
+guarded node.Val = λ p a b. refl
+guarded node.Fun = λ p a b. refl
+guarded node.Type = λ p a. refl
+guarded node.Datatype = λ p a. refl
+guarded _ = tt
 
-closed_three : (n : TreeNode) (p : Place) (a b c : Term) → parts_of n ≡ 3 → opens_up n ≡ false → unguarded (three n p a b c) ≡ unguarded (leaf n p)
-closed_three node.Val p a b c k e = cc
-closed_three _ p a b c k e = cc
-
-closed_four : (n : TreeNode) (p : Place) (a b c d : Term) → parts_of n ≡ 4 → opens_up n ≡ false → unguarded (four n p a b c d) ≡ unguarded (leaf n p)
-closed_four node.Val p a b c d k e = cc
-closed_four _ p a b c d k e = cc
+guards : (n : TreeNode) (k : ℕ) → parts_of n ≡ k → opens_up n ≡ false → Guards k false n
+guards n k few shut = subst (λ k. Guards k false n) few (subst (λ o. Guards (parts_of n) o n) shut (guarded n))
 
 closed : (t : Term) → parts_of (node_of t) ≡ parts_in t → opens_up (node_of t) ≡ false → unguarded t ≡ unguarded (leaf (node_of t) (place_at t))
 closed (leaf n p) k e = refl
-closed (one n p a) k e = closed_one n p a k e
-closed (two n p a b) k e = closed_two n p a b k e
-closed (three n p a b c) k e = closed_three n p a b c k e
-closed (four n p a b c d) k e = closed_four n p a b c d k e
+closed (one n p a) k e = guards n 1 k e p a
+closed (two n p a b) k e = guards n 2 k e p a b
+closed (three n p a b c) k e = guards n 3 k e p a b c
+closed (four n p a b c d) k e = guards n 4 k e p a b c d
 
 pub in_closed : (src : Source) (i : ℕ) (old new : List ℕ) (n : TreeNode) → n ≡ node_at src i → opens_up n ≡ false → ((p : Place) → new ≡ old ++ unguarded (leaf n p)) → Puts src unguarded i old new
 in_closed src i old new n e shut h t w =

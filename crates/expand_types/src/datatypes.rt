@@ -1,6 +1,6 @@
 //! `datatype` declarations.
 
-ghost use Rattle.std.specs.Prelude.{◌≡◌, ◌≢◌, ◌∷◌, ◌++◌, [], List, ℕ, suc, map, reverse, IfOk, OnOk};
+ghost use Rattle.std.specs.Prelude.{◌≡◌, ◌≢◌, ◌∷◌, ◌++◌, [], List, ℕ, map, reverse, IfOk, OnOk};
 ghost use Rattle.sml_tree.specs.declared.tree_node.TreeNode.TheVariants as tree;
 ghost use Rattle.sml_expansion.specs.Terms.{Term};
 ghost use Rattle.sml_expansion.specs.Sources.{IsAt, node_at};
@@ -17,6 +17,7 @@ use crate::exceptions::{bind_values, has, refuse_fixed};
 use crate::type_declarations::bind_types;
 use crate::type_variables::{in_scope, numbers_of, params, tyvars};
 use crate::types::type_of;
+use sml_expansion::number::next;
 use sml_expansion::once::idents_once;
 use sml_expansion::{Bindings, Ident, Made, Meaning, Parsed, Scoped, TypeMeaning, Walk};
 use sml_tree::TreeNode;
@@ -73,16 +74,6 @@ impl Datatypes {
             params,
             cons: bound,
         })
-    }
-}
-
-/// The number behind one. There is no memory for more things than numbers.
-fn next(number: u32) -> Result<u32, NoMemory>
-    ensures { IfOk result (λ behind. behind ≡ suc number) }
-{
-    match number.checked_add(1) {
-        Some(behind) => Ok(behind),
-        None => Err(NoMemory),
     }
 }
 

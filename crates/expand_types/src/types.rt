@@ -14,6 +14,7 @@ ghost use Rattle.expand_types.specs.Forms.{is_type_list};
 
 use crate::labels::labels;
 use sml_expansion::labels::{product_fields, type_fields};
+use sml_expansion::number::number_at;
 use sml_expansion::once::labels_once;
 use sml_expansion::{Bindings, Ident, Made, Parsed, TypeMeaning};
 use sml_tree::TreeNode;
@@ -40,16 +41,6 @@ pub(crate) fn alone(alloc: Global, number: u32) -> Result<Vec<u32>, NoMemory>
     let mut numbers = Vec::new(alloc);
     numbers.push(number)?;
     Ok(numbers)
-}
-
-/// A number of a list, 0 past its end.
-fn number_at(numbers: &[u32], at: usize) -> u32
-    ensures { result ≡ get_or numbers.now at 0 }
-{
-    match numbers.get(at) {
-        Some(number) => *number,
-        None => 0,
-    }
 }
 
 /// The numbers of two lists.

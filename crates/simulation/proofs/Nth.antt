@@ -66,7 +66,7 @@ nth_pass full a b f p l i m h =
 
 -- ---- The i-th pass is one step
 
-point_is_one : (p : Point) → is_point p p ≡ true
+pub point_is_one : (p : Point) → is_point p p ≡ true
 point_is_one p = let e : (p.node == p.node) ≡ true = eq-eqb p.node p.node refl in ap (λ b. b && is_same_kind p.kind p.kind) e ∙ same_kind_one p.kind
   where
     same_kind_one : (k : PointKind) → is_same_kind k k ≡ true

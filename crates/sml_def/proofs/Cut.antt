@@ -1,12 +1,10 @@
 -- Each environment of a run is cut to the free variables of what it is for.
-use Rattle.std.proofs.Common.{◌≡◌, ℕ, zero, suc, ◌+◌, Bool, true, false, List, [], ◌∷◌, ◌++◌, length, Option, Some, None, refl, sym, ap, ◌∙◌, subst}
-use Rattle.std.specs.Prelude.{IfSome, slice_get, nat_eq, nat_lt, cond, ◌||◌, ℤ, pos, negsuc, ◌+ℤ◌, ◌-ℤ◌, ◌*ℤ◌, neg_ℤ, unsigned_abs, if◌then◌else◌, take, drop}
+use Rattle.std.proofs.Common.{◌≡◌, ℕ, zero, suc, Bool, true, false, List, [], ◌∷◌, ◌++◌, length, Option, Some, None, refl, sym, ap, ◌∙◌, subst}
+use Rattle.std.specs.Prelude.{IfSome, slice_get, nat_eq, cond, ◌||◌}
 use Rattle.std.specs.Option.{option_map}
 use Rattle.std.specs.List.{AllByRecursion, cons_option, list_any}
 use Rattle.std.proofs.lemmas.List.Folds.{list_any-append}
 use Rattle.std.proofs.lemmas.Bool.{eq-eqb}
-use Rattle.smlc_base.specs.declared.primitive.Primitive.{Primitive}
-use Rattle.smlc_base.specs.declared.primitive.Primitive.TheVariants as prim
 use Rattle.sml_tree.specs.declared.bare.Bare.{Bare}
 use Rattle.sml_tree.specs.declared.bare.Node.{Node}
 use Rattle.sml_tree.specs.declared.bare.Node.TheVariants as node
@@ -14,7 +12,6 @@ use Rattle.sml_tree.specs.declared.bare.Field.{Field}
 use Rattle.sml_tree.specs.declared.bare.Rule.{Rule}
 use Rattle.sml_tree.specs.declared.bare.Binding.{Binding}
 use Rattle.sml_tree.specs.declared.bare.RecBinding.{RecBinding}
-use Rattle.sml_tree.specs.declared.bare.LibraryExn.TheVariants as exn
 use Rattle.sml_tree.specs.Sets.{has, union, union_over, without}
 use Rattle.sml_tree.specs.BareParts.{IsNumbered, at_node, within}
 use Rattle.sml_tree.specs.Free.{free, binds, free_of, binds_of, scoped, free_match, free_fields, free_rest, bound_by, names_of}
@@ -22,13 +19,13 @@ use Rattle.sml_tree.proofs.Members.{IsWithin, within_left, within_right, within_
 use Rattle.sml_tree.proofs.FreeParts.{free_unfold, binds_unfold}
 use Rattle.simulation.specs.Stores.{Act, acted, machine_of}
 use Rattle.simulation.proofs.Machines.{state_by}
-use Rattle.sml_def.proofs.Effects.{all_append, all_get, EffectHas, act_done}
-use Rattle.sml_def.specs.Maybe.{◌>>=◌, when, or_else}
-use Rattle.sml_def.specs.State.{Value, Number, Letter, Builtin, Maker, RefMaker, Library, At, Env, Address, Awaits, FunctionPart, ArgumentPart, FieldPart, Subject, RightSide, RaisePart, Guarded, Block, Tuple, Applied, Text, Cell, ExnName, Packet, Closure, Frame, Pending, Uncaught, Control, Eval, Ret, Apply, Raise, Eq, End, Focus, look, cut}
+use Rattle.sml_def.proofs.Effects.{all_get, effects_map, EffectHas, act_done}
+use Rattle.sml_def.proofs.Options.{bind_some, or_some, when_some, if_some}
+use Rattle.sml_def.proofs.Plain.{IsIdle, IsPlainBlock, IsPlainAct, compare_plain, uncaught_plain, builtin_plain}
+use Rattle.sml_def.specs.State.{Value, Number, Letter, Builtin, Maker, RefMaker, Library, At, Env, Address, Awaits, FunctionPart, ArgumentPart, FieldPart, Subject, RightSide, RaisePart, Guarded, Block, Tuple, Applied, Cell, ExnName, Packet, Closure, Frame, Control, Eval, Ret, Apply, Raise, Eq, End, Focus, look, cut}
 use Rattle.sml_def.specs.Memory.{Memory, Next, going, making, awaiting, making_all}
-use Rattle.sml_def.specs.Match.{con_value, bytes_of, fits_of, fits, fields_fit, first_rule, argument_of, fields_of, block_of, cell_block}
-use Rattle.sml_def.specs.Builtin.{int_result, divided, Verdict, Equal, Unequal, AsPairs, compare_values, pend, by_verdict, is_deep, start_compare, on_ints, on_texts, sub_result, assign, on_two, on_three, on_fields, read_line, builtin, letters, is_int, floor_div, floor_mod}
-use Rattle.sml_def.specs.Step.{by_label, env_of, env_of_match, env_of_fields, env_of_rest, eval_in, group_env, closure_of, closures, function_of, function_at, declare, eval_dec, eval_fields, eval_record, eval, by_rule, bind, resume, ret, apply_block, apply, exn_name, name_of, uncaught, raised_to, raised, compare, step}
+use Rattle.sml_def.specs.Match.{con_value, bytes_of, fits_of, fits, fields_fit, first_rule, argument_of, fields_of}
+use Rattle.sml_def.specs.Step.{by_label, env_of, env_of_match, env_of_fields, env_of_rest, eval_in, group_env, closure_of, closures, function_of, function_at, declare, eval_dec, eval_fields, eval_record, eval, by_rule, bind, resume, ret, apply_block, apply, raised_to, raised, step}
 use Rattle.sml_def.specs.Run.{State, view, source, start}
 use Rattle.sml_def.specs.Cut.{names, needs, env_in, IsCutBlock, IsCutControl, IsCut, EnvironmentsAreCut}
 
@@ -69,23 +66,6 @@ only : (b : Bool) → (b || false) ≡ true → b ≡ true
 only true h = refl
 only false h = h
 
--- one thing after another
-pub bind_some : {A B : Type 0} (Q : B → Type 0) (o : Option A) (f : A → Option B) → ((x : A) → o ≡ Some x → IfSome (f x) Q) → IfSome (o >>= f) Q
-bind_some Q None f g = tt
-bind_some Q (Some x) f g = g x refl
-
-pub or_some : {A B : Type 0} (Q : B → Type 0) (o : Option A) (f : A → B) (other : B) → ((x : A) → o ≡ Some x → Q (f x)) → Q other → Q (or_else o f other)
-or_some Q None f other g e = e
-or_some Q (Some x) f other g e = g x refl
-
-pub when_some : {A : Type 0} (Q : A → Type 0) (t : Bool) (x : A) → Q x → IfSome (when t x) Q
-when_some Q true x h = h
-when_some Q false x h = tt
-
-pub if_some : {A : Type 0} (Q : A → Type 0) (o : Option A) (x : A) → o ≡ Some x → IfSome o Q → Q x
-if_some Q None x e h = cc
-if_some Q (Some y) x e h = let same : y ≡ x = cc in subst Q same h
-
 module _ (p : Bare) (env : Env) (store : List Block) where
   -- what a match binds has the pattern's variables
   abbrev BindsAll : (ℕ → List ℕ) → (ℕ → Value → Option Env) → Type 0
@@ -101,12 +81,12 @@ module _ (p : Bare) (env : Env) (store : List Block) where
 
   fits_of_bind : (b : ℕ → List ℕ) (part : ℕ → Value → Option Env) → BindsAll b part → (q : Node) (v : Value) → IfSome (fits_of p env store part q v) (λ e. IsWithin (binds_of b q) (names e))
   fits_of_bind b part g node.Wild v = λ z h. h
-  fits_of_bind b part g (node.PatInt m) (Number k) = when_some (λ e. IsWithin [] (names e)) _ [] (λ z h. h)
-  fits_of_bind b part g (node.PatChar c) (Letter d) = when_some (λ e. IsWithin [] (names e)) _ [] (λ z h. h)
+  fits_of_bind b part g (node.PatInt m) (Number k) = when_some (λ e. IsWithin [] (names e)) _ [] (λ w z h. h)
+  fits_of_bind b part g (node.PatChar c) (Letter d) = when_some (λ e. IsWithin [] (names e)) _ [] (λ w z h. h)
   fits_of_bind b part g (node.PatText t) v =
-      bind_some _ (slice_get p.texts t) _ (λ bs eb. bind_some _ (bytes_of p store v) _ (λ cs ec. when_some (λ e. IsWithin [] (names e)) _ [] (λ z h. h)))
+      bind_some _ (slice_get p.texts t) _ (λ bs eb. bind_some _ (bytes_of p store v) _ (λ cs ec. when_some (λ e. IsWithin [] (names e)) _ [] (λ w z h. h)))
   fits_of_bind b part g (node.PatVar x) v = λ z h. h
-  fits_of_bind b part g (node.PatCon c) v = when_some (λ e. IsWithin [] (names e)) _ [] (λ z h. h)
+  fits_of_bind b part g (node.PatCon c) v = when_some (λ e. IsWithin [] (names e)) _ [] (λ w z h. h)
   fits_of_bind b part g (node.PatApp c q) v = bind_some _ (argument_of env store c v) _ (λ w e. g q w)
   fits_of_bind b part g (node.PatRecord fields) v = bind_some _ (fields_of store v) _ (λ vs e. fields_bind b part g fields vs)
   fits_of_bind b part g (node.PatTyped q ty) v = g q v
@@ -416,122 +396,30 @@ module _ (p : Bare) (numbered : IsNumbered p.nodes) (s : Memory) (cut_store : Al
   raised_cut (Some (Frame w next)) x h = raised_to_cut w next x h
   raised_cut _ x h = tt
 
-  uncaught_cut : (x : Value) → Good (uncaught p s x)
-  uncaught_cut x =
-      bind_some (IsCutAct p) (exn_name p s.store (name_of p s.store x)) (λ q. going s (End (Uncaught q))) (λ q e. going_cut (End (Uncaught q)) tt)
+  -- ---- What evaluates nothing
 
-  pend_cut : (pairs : List (Value × Value)) (next : Option Address) (a : Address) → AllByRecursion (IsCutBlock p) (pend pairs next a).0
-  pend_cut [] next a = tt
-  pend_cut (q ∷ pairs) next a =
-      all_append (IsCutBlock p) (pend pairs next a).0 (Pending q.0 q.1 (pend pairs next a).1 ∷ []) (pend_cut pairs next a) (tt, tt)
+  plain_control : (c : Control) → IsIdle c → IsCutControl p c
+  plain_control (Eval i env k) h = absurd h
+  plain_control _ h = tt
 
-  verdict_cut : (r : Verdict) (next : Option Address) (t : Bool) (k : Option Address) → Good (by_verdict s r next t k)
-  verdict_cut Equal next t k = going_cut (Eq next t k) tt
-  verdict_cut Unequal next t k = going_cut _ tt
-  verdict_cut (AsPairs pairs) next t k = all_cut _ _ (pend_cut pairs next (length s.store)) tt
+  plain_block : (b : Block) → IsPlainBlock b → IsCutBlock p b
+  plain_block (Closure i rules env) h = absurd h
+  plain_block (Frame w next) h = absurd h
+  plain_block _ h = tt
 
-  compare_cut : (o : Option Block) (t : Bool) (k : Option Address) → Good (compare p s o t k)
-  compare_cut (Some (Pending v w next)) t k = verdict_cut (compare_values p s.store v w) next t k
-  compare_cut _ t k = tt
-
-  -- ---- The primitives evaluate nothing
-
-  if_cut : (t : Bool) (c d : Control) → IsCutControl p c → IsCutControl p d → IsCutControl p (if t then c else d)
-  if_cut true c d h g = h
-  if_cut false c d h g = g
-
-  int_cut : (z : ℤ) (k : Option Address) → IsCutControl p (int_result z k)
-  int_cut z k = if_cut (is_int z) (Ret (Number z) k) (Raise (Library exn.OverflowExn) k) tt tt
-
-  divided_cut : (f : ℤ → ℤ → ℤ) (x y : ℤ) (k : Option Address) → IsCutControl p (divided f x y k)
-  divided_cut f x (pos zero) k = tt
-  divided_cut f x (pos (suc m)) k = int_cut (f x (pos (suc m))) k
-  divided_cut f x (negsuc m) k = int_cut (f x (negsuc m)) k
-
-  ints_cut : (k : Option Address) (v w : Value) (f : ℤ → ℤ → Control) → ((x y : ℤ) → IsCutControl p (f x y)) → Good (on_ints p s k v w f)
-  ints_cut k (Number x) (Number y) f h = going_cut (f x y) (h x y)
-  ints_cut k _ _ f h = tt
-
-  bytes_cut : (v : Value) (f : List ℕ → Next) → ((bytes : List ℕ) → Good (f bytes)) → Good (bytes_of p s.store v >>= f)
-  bytes_cut v f h = bind_some (IsCutAct p) (bytes_of p s.store v) f (λ bs e. h bs)
-
-  texts_cut : (k : Option Address) (v w : Value) (f : List ℕ → List ℕ → Next) → ((xs ys : List ℕ) → Good (f xs ys)) → Good (on_texts p s k v w f)
-  texts_cut k v w f h = bytes_cut v _ (λ xs. bytes_cut w _ (λ ys. h xs ys))
-
-  text_cut : (k : Option Address) (bytes : List ℕ) → Good (making s (Text bytes) (λ a. Ret (At a) k))
-  text_cut k bytes = making_cut (Text bytes) (λ a. Ret (At a) k) tt tt
-
-  sub_cut : (k : Option Address) (o : Option ℕ) → Good (sub_result p s k o)
-  sub_cut k (Some c) = going_cut _ tt
-  sub_cut k None = going_cut _ tt
-
-  assign_cut : (k : Option Address) (o : Option Block) (v w : Value) → Good (assign p s k o v w)
-  assign_cut k (Some (Cell old)) (At a) w = record { control = tt; effects = (tt, tt) }
-  assign_cut k _ v w = tt
-
-  start_cut : (v w : Value) (t : Bool) (k : Option Address) → Good (start_compare p s v w t k)
-  start_cut v w t k =
-      cond_cut (is_deep (block_of s.store v) (block_of s.store w)) _ _ (making_cut (Pending v w None) (λ a. Eq (Some a) t k) tt tt) (going_cut _ tt)
-
-  two_cut : (k : Option Address) (f : Primitive) (v w : Value) → Good (on_two p s k f v w)
-  two_cut k prim.Plus v w = ints_cut k v w _ (λ x y. int_cut (x +ℤ y) k)
-  two_cut k prim.Minus v w = ints_cut k v w _ (λ x y. int_cut (x -ℤ y) k)
-  two_cut k prim.Times v w = ints_cut k v w _ (λ x y. int_cut (x *ℤ y) k)
-  two_cut k prim.Quotient v w = ints_cut k v w _ (λ x y. divided_cut floor_div x y k)
-  two_cut k prim.Modulo v w = ints_cut k v w _ (λ x y. divided_cut floor_mod x y k)
-  two_cut k prim.Less v w = ints_cut k v w _ (λ x y. tt)
-  two_cut k prim.Greater v w = ints_cut k v w _ (λ x y. tt)
-  two_cut k prim.AtMost v w = ints_cut k v w _ (λ x y. tt)
-  two_cut k prim.AtLeast v w = ints_cut k v w _ (λ x y. tt)
-  two_cut k prim.Equal v w = start_cut v w true k
-  two_cut k prim.Unequal v w = start_cut v w false k
-  two_cut k prim.Assign v w = assign_cut k (block_of s.store v) v w
-  two_cut k prim.Concat v w = texts_cut k v w _ (λ xs ys. text_cut k (xs ++ ys))
-  two_cut k prim.Compare v w = texts_cut k v w _ (λ xs ys. going_cut _ tt)
-  two_cut k prim.Sub v (Number (negsuc m)) = going_cut _ tt
-  two_cut k prim.Sub v (Number (pos m)) = bytes_cut v _ (λ bs. sub_cut k (slice_get bs m))
-  two_cut k _ v w = tt
-
-  three_cut : (k : Option Address) (f : Primitive) (v w u : Value) → Good (on_three p s k f v w u)
-  three_cut k prim.Substring v (Number (pos i)) (Number (pos m)) =
-      bytes_cut v _ (λ bs. cond_cut (nat_lt (length bs) (i + m)) _ _ (going_cut (Raise (Library exn.SubscriptExn) k) tt) (text_cut k (take m (drop i bs))))
-  three_cut k prim.Substring v (Number (negsuc i)) (Number y) = going_cut _ tt
-  three_cut k prim.Substring v (Number (pos i)) (Number (negsuc m)) = going_cut _ tt
-  three_cut k _ v w u = tt
-
-  on_fields_cut : (k : Option Address) (f : Primitive) (vs : List Value) → Good (on_fields p s k f vs)
-  on_fields_cut k f (v ∷ w ∷ []) = two_cut k f v w
-  on_fields_cut k f (v ∷ w ∷ u ∷ []) = three_cut k f v w u
-  on_fields_cut k f _ = tt
-
-  others_cut : (k : Option Address) (f : Primitive) (v : Value) → Good (fields_of s.store v >>= on_fields p s k f)
-  others_cut k f v = bind_some (IsCutAct p) (fields_of s.store v) _ (λ vs e. on_fields_cut k f vs)
-
-  line_cut : (k : Option Address) (input : List ℕ) → Good (read_line p s k input)
-  line_cut k [] = going_cut _ tt
-  line_cut k (c ∷ cs) = record { control = tt; effects = ((tt, (tt, tt)), tt) }
-
-  builtin_cut : (k : Option Address) (f : Primitive) (v : Value) → Good (builtin p s k f v)
-  builtin_cut k prim.Negate (Number x) = going_cut _ (int_cut (neg_ℤ x) k)
-  builtin_cut k prim.Abs (Number x) = going_cut _ (int_cut (pos (unsigned_abs x)) k)
-  builtin_cut k prim.Deref v = bind_some (IsCutAct p) (cell_block (block_of s.store v)) _ (λ w e. going_cut (Ret w k) tt)
-  builtin_cut k prim.Ord (Letter c) = going_cut _ tt
-  builtin_cut k prim.Chr (Number (pos m)) = going_cut _ (if_cut _ (Ret (Letter m) k) (Raise (Library exn.ChrExn) k) tt tt)
-  builtin_cut k prim.Chr (Number (negsuc m)) = going_cut _ tt
-  builtin_cut k prim.Size v = bytes_cut v _ (λ bs. going_cut _ tt)
-  builtin_cut k prim.Str (Letter c) = text_cut k (c ∷ [])
-  builtin_cut k prim.Implode v =
-      bind_some (IsCutAct p) (letters (suc (length s.store)) s.store v) _ (λ bs e. text_cut k bs)
-  builtin_cut k prim.Print v = bytes_cut v _ (λ bs. record { control = tt; effects = tt })
-  builtin_cut k prim.InputLine (Builtin prim.StdIn) = line_cut k s.input
-  builtin_cut k f v = others_cut k f v
+  plain_cut : (o : Next) → IfSome o IsPlainAct → Good o
+  plain_cut None h = tt
+  plain_cut (Some a) h = record {
+    control = plain_control a.next.control h.control;
+    effects = effects_map IsPlainBlock (IsCutBlock p) plain_block a.effects h.effects;
+  }
 
   apply_cut : (f v : Value) (k : Option Address) → Good (apply p s f v k)
   apply_cut (At a) v k = apply_block_cut (slice_get s.store a) (At a) v k (all_get (IsCutBlock p) s.store a cut_store)
   apply_cut (Library e) v k = making_cut (Packet (Library e) v) (λ a. Ret (At a) k) tt tt
   apply_cut (Maker m) v k = making_cut (Applied m v) (λ a. Ret (At a) k) tt tt
   apply_cut RefMaker v k = making_cut (Cell v) (λ a. Ret (At a) k) tt tt
-  apply_cut (Builtin f) v k = builtin_cut k f v
+  apply_cut (Builtin f) v k = plain_cut _ (builtin_plain p s k f v)
   apply_cut _ v k = tt
 
   pub step_cut : (c : Control) → IsCutControl p c → Good (step p s c)
@@ -539,10 +427,10 @@ module _ (p : Bare) (numbered : IsNumbered p.nodes) (s : Memory) (cut_store : Al
   step_cut (Ret v None) h = going_cut _ tt
   step_cut (Ret v (Some a)) h = ret_cut (slice_get s.store a) v (all_get (IsCutBlock p) s.store a cut_store)
   step_cut (Apply f v k) h = apply_cut f v k
-  step_cut (Raise x None) h = uncaught_cut x
+  step_cut (Raise x None) h = plain_cut _ (uncaught_plain p s x)
   step_cut (Raise x (Some a)) h = raised_cut (slice_get s.store a) x (all_get (IsCutBlock p) s.store a cut_store)
   step_cut (Eq None t k) h = going_cut _ tt
-  step_cut (Eq (Some a) t k) h = compare_cut (slice_get s.store a) t k
+  step_cut (Eq (Some a) t k) h = plain_cut _ (compare_plain p s (slice_get s.store a) t k)
   step_cut (End e) h = tt
 
 cut_after : (p : Bare) → IsNumbered p.nodes → (s t : State) → IsCut p s → (machine_of (source p)).step s ≡ Some t → IsCut p t

@@ -84,3 +84,9 @@ module _ (P : Block → Type 0) where
           let made : State = record { control = a.next; out = wrote s.out a.told; store = ys } in
           let same : made ≡ t = cc in
           subst (λ u. IsDone s u a) same (record { control = refl; len = d.0; store = d.1 })
+
+-- where each block that has the one fact has the other
+pub effects_map : (P Q : Block → Type 0) → ((b : Block) → P b → Q b) → (es : List (Effect Block)) → AllByRecursion (EffectHas P) es → AllByRecursion (EffectHas Q) es
+effects_map P Q f [] h = tt
+effects_map P Q f (Append xs ∷ es) h = (all_map P Q f xs h.0, effects_map P Q f es h.1)
+effects_map P Q f (Put a x ∷ es) h = (f x h.0, effects_map P Q f es h.1)

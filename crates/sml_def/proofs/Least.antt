@@ -11,7 +11,7 @@ use Rattle.sml_def.specs.Words.{words, some_fields, as_set, fields_at, rounds, r
 
 -- ---- Ascending sets below n
 
-abbrev IsAscending : ℕ → ℕ → List ℕ → Type 0
+abbrev pub IsAscending : ℕ → ℕ → List ℕ → Type 0
 IsAscending lo n [] = Unit {0}
 IsAscending lo n (x ∷ xs) = (lo ≤ x) × (x < n) × IsAscending (suc x) n xs
 
@@ -19,7 +19,7 @@ few : (lo n : ℕ) (xs : List ℕ) → lo ≤ n → IsAscending lo n xs → lo +
 few lo n [] le h = omega arith
 few lo n (x ∷ xs) le h = omega (arith, h.0, few (suc x) n xs h.1 h.2)
 
-ascending_down : (lo hi n : ℕ) (xs : List ℕ) → lo ≤ hi → IsAscending hi n xs → IsAscending lo n xs
+pub ascending_down : (lo hi n : ℕ) (xs : List ℕ) → lo ≤ hi → IsAscending hi n xs → IsAscending lo n xs
 ascending_down lo hi n [] le h = tt
 ascending_down lo hi n (x ∷ xs) le h = (omega (arith, h.0), h.1, h.2)
 
@@ -118,25 +118,25 @@ one_in f (x ∷ xs) b z hb hz =
     (λ a. or_left (has (f x) z) (has (union_over f xs) z) (ap (λ y. has (f y) z) (sym (eqb-true b x a)) ∙ hz))
     (λ a. or_right (has (f x) z) (has (union_over f xs) z) (one_in f xs b z a hz))
 
-in_among : (xs : List ℕ) (z : ℕ) → has xs z ≡ true → IsAmong z xs
+pub in_among : (xs : List ℕ) (z : ℕ) → has xs z ≡ true → IsAmong z xs
 in_among [] z h = cc
 in_among (x ∷ xs) z h =
     either (nat_eq z x) (has xs z) (IsAmong z (x ∷ xs)) h (λ e. inl (eqb-true z x e)) (λ g. inr (in_among xs z g))
 
-among_in : (xs : List ℕ) (z : ℕ) → IsAmong z xs → has xs z ≡ true
+pub among_in : (xs : List ℕ) (z : ℕ) → IsAmong z xs → has xs z ≡ true
 among_in [] z h = absurd h
 among_in (x ∷ xs) z h =
     ⊎_elim (λ (e : z ≡ x). or_left (nat_eq z x) (has xs z) (eq-eqb z x e)) (λ (g : IsAmong z xs). or_right (nat_eq z x) (has xs z) (among_in xs z g)) h
 
 -- a member of an ascending list
-among_between : (lo n : ℕ) (xs : List ℕ) (z : ℕ) → IsAscending lo n xs → IsAmong z xs → (lo ≤ z) × (z < n)
+pub among_between : (lo n : ℕ) (xs : List ℕ) (z : ℕ) → IsAscending lo n xs → IsAmong z xs → (lo ≤ z) × (z < n)
 among_between lo n [] z h g = absurd g
 among_between lo n (x ∷ xs) z h (inl e) = (omega (arith, h.0), omega (arith, h.1))
 among_between lo n (x ∷ xs) z h (inr g) =
     let r = among_between (suc x) n xs z h.2 g in
     (omega (arith, h.0, r.0), r.1)
 
-distinct_of : (lo n : ℕ) (xs : List ℕ) → IsAscending lo n xs → IsDistinct xs
+pub distinct_of : (lo n : ℕ) (xs : List ℕ) → IsAscending lo n xs → IsDistinct xs
 distinct_of lo n [] h = tt
 distinct_of lo n (x ∷ xs) h =
     ((λ g. let r = among_between (suc x) n xs x h.2 g in absurd (omega (arith, r.0))), distinct_of (suc x) n xs h.2)
@@ -219,7 +219,7 @@ module _ (memory : List Block) (roots : List ℕ) (whole : IsWhole memory roots)
       ap (λ xs. has xs a) (sym stable)
       ∙ within_right (reached memory roots) (union_over (fields_at memory) (reached memory roots)) a (one_in (fields_at memory) (reached memory roots) b a (all_reached b r) (ap (λ o. has (as_set (some_fields o)) a) s ∙ among_has x.fields a h))
 
-  reached_ascending : IsAscending 0 (length memory) (reached memory roots)
+  pub reached_ascending : IsAscending 0 (length memory) (reached memory roots)
   reached_ascending = rounds_ascending (length memory) (as_set roots) (set_ascending (length memory) roots whole.roots_stand)
 
   pub has_words : HasWords memory roots (words memory roots)

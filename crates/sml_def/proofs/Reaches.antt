@@ -73,7 +73,7 @@ some_is : {A : Type 0} (P : A → Type 0) (o : Option A) (x : A) → o ≡ Some 
 some_is P None x e h = cc
 some_is P (Some y) x e h = let same : y ≡ x = cc in subst P same h
 
-whole : (s : State) → IsClosed s → IsWhole (map view s.store) (of_control s.control.control)
+pub whole : (s : State) → IsClosed s → IsWhole (map view s.store) (of_control s.control.control)
 whole s h =
     let len : length (map view s.store) ≡ length s.store = length-map s.store view in
     record {

@@ -8,6 +8,7 @@ pub mod Run
 pub mod Words
 pub mod Sites
 pub mod Made
+pub mod Census
 pub mod Laws
 pub mod Closed
 pub mod Cut

@@ -1,6 +1,6 @@
 //! The points of a program, each with its source words.
 
-ghost use Rattle.std.specs.Prelude.{◌≡◌, ◌+◌, ◌<◌, ◌^◌, IfOk};
+ghost use Rattle.std.specs.Prelude.{◌≡◌, ◌+◌, ◌<◌, ◌≤◌, ◌^◌, IfOk};
 ghost use Rattle.sml_tree.specs.IsBare.{IsBare};
 ghost use Rattle.sml_def.specs.Sites.{own_words, no_place, place_at, site_of, eq_site, sites};
 
@@ -11,7 +11,8 @@ use std::alloc::Global;
 
 // The words of a closure or frame beside the values that it holds.
 fn header_words(kind: PointKind) -> usize
-    ensures { result ≡ own_words kind }
+    ensures words { result ≡ own_words kind }
+    ensures few { result ≤ 2 }
 {
     match kind {
         PointKind::Fn => 1,
@@ -35,20 +36,16 @@ fn place_of(places: &[Place], node: u32) -> Place
     }
 }
 
-// No memory holds a block of 2^32 words.
-fn site(places: &[Place], spot: Spot) -> Result<Site, NoMemory>
-    ensures { IfOk result (λ s. s ≡ site_of places.now spot) }
+fn site(places: &[Place], spot: Spot) -> Site
+    requires { spot.held + 2 < 2 ^ 32 }
+    ensures { result ≡ site_of places.now spot }
 {
-    let words = header_words(spot.point.kind);
-    if spot.held > u32::MAX as usize - words {
-        return Err(NoMemory);
-    }
-    Ok(Site {
+    Site {
         point: spot.point,
         place: place_of(places, spot.point.node),
-        words: (spot.held + words) as u32,
+        words: (spot.held + header_words(spot.point.kind)) as u32,
         outer: spot.outer,
-    })
+    }
 }
 
 fn comparison() -> Site
@@ -77,7 +74,7 @@ pub fn points(alloc: Global, bare: &Bare) -> Result<Row<Site>, NoMemory>
     let places = bare.places.items();
     let mut found = Row::new(alloc);
     for spot in &points_of(alloc, bare.nodes.items())? {
-        found.push(site(places, *spot)?)?;
+        found.push(site(places, *spot))?;
     }
     found.push(comparison())?;
     Ok(found)

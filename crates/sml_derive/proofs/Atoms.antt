@@ -75,46 +75,46 @@ absurd_bool : {P : Type 0} → true ≡ false → P
 absurd_bool e = cc
 
 leaf_nothing : (h : Position) (s : Scope) (n : TreeNode) (p : Place) → is_atom n ≡ false → expressions h s (leaf n p) ≡ gives none
-leaf_nothing h s (node.Vid x) p e = cc
-leaf_nothing h s node.VidEquals p e = cc
-leaf_nothing h s (node.LongVid x) p e = cc
-leaf_nothing h s (node.Int z) p e = cc
-leaf_nothing h s (node.Char c) p e = cc
-leaf_nothing h s (node.Text t) p e = cc
-leaf_nothing h s node.Unit p e = cc
-leaf_nothing h s node.EmptyRecord p e = cc
-leaf_nothing h s node.EmptyList p e = cc
+leaf_nothing h s (node.Vid x) p e = absurd_bool e
+leaf_nothing h s node.VidEquals p e = absurd_bool e
+leaf_nothing h s (node.LongVid x) p e = absurd_bool e
+leaf_nothing h s (node.Int z) p e = absurd_bool e
+leaf_nothing h s (node.Char c) p e = absurd_bool e
+leaf_nothing h s (node.Text t) p e = absurd_bool e
+leaf_nothing h s node.Unit p e = absurd_bool e
+leaf_nothing h s node.EmptyRecord p e = absurd_bool e
+leaf_nothing h s node.EmptyList p e = absurd_bool e
 leaf_nothing h s _ p e = refl
 
 one_nothing : (h : Position) (s : Scope) (n : TreeNode) (p : Place) (a : Term) → is_atom n ≡ false → is_compound n ≡ false → expressions h s (one n p a) ≡ gives none
-one_nothing h s node.Op p a e f = cc
-one_nothing h s node.Paren p a e f = cc
-one_nothing h s node.Record p a e f = cc
-one_nothing h s node.List p a e f = cc
-one_nothing h s node.Raise p a e f = cc
-one_nothing h s node.Fn p a e f = cc
+one_nothing h s node.Op p a e f = absurd_bool e
+one_nothing h s node.Paren p a e f = absurd_bool f
+one_nothing h s node.Record p a e f = absurd_bool f
+one_nothing h s node.List p a e f = absurd_bool f
+one_nothing h s node.Raise p a e f = absurd_bool f
+one_nothing h s node.Fn p a e f = absurd_bool f
 one_nothing h s _ p a e f = refl
 
 two_nothing : (h : Position) (s : Scope) (n : TreeNode) (p : Place) (a b : Term) → is_compound n ≡ false → expressions h s (two n p a b) ≡ gives none
-two_nothing h s node.Apply p a b f = cc
-two_nothing h s node.Tuple p a b f = cc
-two_nothing h s node.MoreItems p a b f = cc
-two_nothing h s node.Row p a b f = cc
-two_nothing h s node.MoreRows p a b f = cc
-two_nothing h s node.Sequence p a b f = cc
-two_nothing h s node.MoreSeq p a b f = cc
-two_nothing h s node.Typed p a b f = cc
-two_nothing h s node.Andalso p a b f = cc
-two_nothing h s node.Orelse p a b f = cc
-two_nothing h s node.While p a b f = cc
-two_nothing h s node.Handle p a b f = cc
-two_nothing h s node.Case p a b f = cc
-two_nothing h s node.Let p a b f = cc
+two_nothing h s node.Apply p a b f = absurd_bool f
+two_nothing h s node.Tuple p a b f = absurd_bool f
+two_nothing h s node.MoreItems p a b f = absurd_bool f
+two_nothing h s node.Row p a b f = absurd_bool f
+two_nothing h s node.MoreRows p a b f = absurd_bool f
+two_nothing h s node.Sequence p a b f = absurd_bool f
+two_nothing h s node.MoreSeq p a b f = absurd_bool f
+two_nothing h s node.Typed p a b f = absurd_bool f
+two_nothing h s node.Andalso p a b f = absurd_bool f
+two_nothing h s node.Orelse p a b f = absurd_bool f
+two_nothing h s node.While p a b f = absurd_bool f
+two_nothing h s node.Handle p a b f = absurd_bool f
+two_nothing h s node.Case p a b f = absurd_bool f
+two_nothing h s node.Let p a b f = absurd_bool f
 two_nothing h s _ p a b f = refl
 
 three_nothing : (h : Position) (s : Scope) (n : TreeNode) (p : Place) (a b c : Term) → is_compound n ≡ false → expressions h s (three n p a b c) ≡ gives none
-three_nothing h s node.InfixExp p a b c f = cc
-three_nothing h s node.If p a b c f = cc
+three_nothing h s node.InfixExp p a b c f = absurd_bool f
+three_nothing h s node.If p a b c f = absurd_bool f
 three_nothing h s _ p a b c f = refl
 
 nothing : (h : Position) (s : Scope) (t : Term) → is_atom (node_of t) ≡ false → is_compound (node_of t) ≡ false → expressions h s t ≡ gives none

@@ -45,11 +45,19 @@ list_parts node.MoreRows e = refl
 list_parts node.MoreSeq e = refl
 list_parts _ e = cc
 
+-- what a list with such a test is
+abbrev Lists : Bool → TreeNode → Type 0
+Lists true n = (s : Scope) (p : Place) (a b : Term) → expressions elsewhere s (two n p a b) ≡ both (expressions elsewhere s a) (expressions elsewhere s b)
+Lists false n = Unit {0}
+
+lists : (n : TreeNode) → Lists (is_list n) n
+lists node.MoreItems = λ s p a b. refl
+lists node.MoreRows = λ s p a b. refl
+lists node.MoreSeq = λ s p a b. refl
+lists _ = tt
+
 list_both : (n : TreeNode) (s : Scope) (p : Place) (a b : Term) → is_list n ≡ true → expressions elsewhere s (two n p a b) ≡ both (expressions elsewhere s a) (expressions elsewhere s b)
-list_both node.MoreItems s p a b e = refl
-list_both node.MoreRows s p a b e = refl
-list_both node.MoreSeq s p a b e = refl
-list_both _ s p a b e = cc
+list_both n s p a b e = subst (λ o. Lists o n) e (lists n) s p a b
 
 pub as_list : (s : Source) (i : ℕ) (t : Term) → IsAt s i t → is_list (node_at s i) ≡ true → (P : Term → Type 0)
     → ((n : TreeNode) (p : Place) (a b : Term) → IsAt s i (two n p a b) → ((c : Scope) → expressions elsewhere c (two n p a b) ≡ both (expressions elsewhere c a) (expressions elsewhere c b)) → P (two n p a b)) → P t

@@ -10,7 +10,7 @@ pub mod labels;
 pub mod made;
 pub mod mark;
 pub mod meaning;
-mod number;
+pub mod number;
 pub mod once;
 pub mod parsed;
 mod parts;
@@ -18,8 +18,6 @@ pub mod refusals;
 pub mod scope;
 pub mod scoped;
 pub mod starts;
-#[cfg(test)]
-mod tests;
 pub mod walk;
 
 pub use made::Made;

@@ -1,9 +1,9 @@
 //! What an expansion makes beside nodes.
 
-ghost use Rattle.std.specs.Prelude.{◌≡◌, ◌∷◌, [], IfOk, suc, ◌==◌, ◌&&◌, slice_index, if◌then◌else◌};
+ghost use Rattle.std.specs.Prelude.{◌≡◌, ◌∷◌, [], IfOk, ◌==◌, ◌&&◌, slice_index, if◌then◌else◌};
 ghost use Rattle.sml_expansion.specs.Makings.{nothing_made, Runs, breaks, new_name, new_names, new_type, new_tyvar, new_type_name, new_abbreviation};
 
-use crate::number::number;
+use crate::number::{next, number};
 use crate::refusals::keep;
 use sml_tree::bare::TypeExp;
 use smlc_base::{Bytes, NoMemory, Refusal, Row};
@@ -112,16 +112,6 @@ impl Made {
         if broken {
             self.refuse(refusal);
         }
-    }
-}
-
-/// The number behind one. There is no memory for more things than numbers.
-fn next(number: u32) -> Result<u32, NoMemory>
-    ensures { IfOk result (λ behind. behind ≡ suc number) }
-{
-    match number.checked_add(1) {
-        Some(behind) => Ok(behind),
-        None => Err(NoMemory),
     }
 }
 

@@ -1,6 +1,6 @@
-//! Numbers of nodes.
+//! Numbers of nodes and of what is made.
 
-ghost use Rattle.std.specs.Prelude.{◌≡◌, IfOk, get_or};
+ghost use Rattle.std.specs.Prelude.{◌≡◌, IfOk, get_or, suc};
 
 use smlc_base::NoMemory;
 
@@ -14,8 +14,18 @@ pub(crate) fn number(nodes: usize) -> Result<u32, NoMemory>
     }
 }
 
+/// The number behind one. There is no memory for more things than numbers.
+pub fn next(number: u32) -> Result<u32, NoMemory>
+    ensures { IfOk result (λ behind. behind ≡ suc number) }
+{
+    match number.checked_add(1) {
+        Some(behind) => Ok(behind),
+        None => Err(NoMemory),
+    }
+}
+
 /// The number at a place, 0 past the end.
-pub(crate) fn number_at(numbers: &[u32], at: usize) -> u32
+pub fn number_at(numbers: &[u32], at: usize) -> u32
     ensures { result ≡ get_or numbers.now at 0 }
 {
     match numbers.get(at) {

@@ -20,6 +20,3 @@ mod terminals;
 mod turns;
 
 pub use parser::parse;
-
-#[cfg(test)]
-mod tests;

@@ -1,8 +1,6 @@
-pub mod Plain
-pub mod LibraryRows
-pub mod Copies
-pub mod Instances
-pub mod Segments
-pub mod Written
-pub mod Held
-pub mod Rounds
+pub mod Stages
+pub mod Going
+pub mod Typing
+pub mod Below
+pub mod Search
+pub mod Schemes

@@ -1,21 +1,16 @@
-//! Parts of type inference: what may be generalised, the types of the library, instances of types with variables, the types that written types mean, and the datatypes that admit equality.
+//! Type inference with principal schemes.
 //!
-//! It stands on `sml_types`, `sml_unify`, `sml_tree` and `smlc_base`. Its main contract: `instance` answers a copy of a type with new variables that, under each substitution that keeps the marks, is an instance of the scheme.
+//! It stands on `infer_checks`, `infer_closing`, `infer_nodes`, `infer_scopes`, `infer_tables`, `infer_laws`, `infer_state`, `infer_parts`, `sml_unify`, `sml_types`, `sml_tree` and `smlc_base`. Its main contract: `infer` answers a principal typing, or the first declaration for which there is none.
 #![tactic(auto)]
 
-pub mod copy;
-pub mod equality;
-pub mod given;
-pub mod held;
-pub mod instance;
-pub mod library;
-pub mod plain;
-mod segment;
-pub mod written;
+mod below;
+pub mod inference;
+mod prefix;
+mod ready;
+mod schemes;
+mod search;
+mod turn;
+pub mod typing;
 
-pub use held::covers;
-pub use library::{LibraryTypes, make_library};
-pub use plain::non_expansive;
-
-#[cfg(test)]
-mod tests;
+pub use inference::Inference;
+pub use typing::infer;

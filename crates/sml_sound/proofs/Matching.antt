@@ -8,7 +8,6 @@ use Rattle.sml_tree.specs.declared.bare.Node.{Node}
 use Rattle.sml_tree.specs.declared.bare.Node.TheVariants as node
 use Rattle.sml_tree.specs.declared.bare.Con.{Con}
 use Rattle.sml_tree.specs.declared.bare.Con.TheVariants as con
-use Rattle.sml_tree.specs.declared.bare.Lab.{Lab}
 use Rattle.sml_tree.specs.declared.bare.Field.{Field}
 use Rattle.sml_tree.specs.declared.bare.LibraryExn.{LibraryExn}
 use Rattle.sml_tree.specs.Sets.{has, union, union_over}
@@ -21,12 +20,13 @@ use Rattle.sml_types.specs.declared.types.TyVar.{TyVar}
 use Rattle.sml_types.specs.Tree.{Tree, App, Variable, FieldsHead, inst}
 use Rattle.sml_types.specs.Poly.{Context, Poly, poly, IsInstance}
 use Rattle.sml_types.specs.Library.{arrow, string_ty, exn_ty, ref_ty, ref_number, library_exn}
-use Rattle.sml_types.specs.TypeExps.{Labelled, IsRecord}
+use Rattle.sml_types.specs.TypeExps.{IsRecord}
 use Rattle.sml_types.specs.Typing.{Typing, IsTyping, IsTypedNode, HasConTy, IsDataPoly, takes_argument, fields_of, bound_in}
 use Rattle.sml_def.specs.Maybe.{◌>>=◌, when}
 use Rattle.sml_def.specs.State.{Value, Number, Letter, Nothing, Tag, Constant, Builtin, Maker, RefMaker, Library, At, Env, Block, Applied, Cell, Packet, look}
 use Rattle.sml_def.specs.Match.{block_of, bytes_of, same_exn, packet_block, applied_block, cell_block, argument_of, is_con, fields_fit, fits_of, fits, first_rule}
 use Rattle.sml_def.specs.Match as match
+use Rattle.sml_sound.proofs.Rows.{Placed, placed_in}
 use Rattle.sml_sound.specs.TypedStates.{Entry, Holds, Names, EntryTy, HasTy, HaveTys, IsName, IsCon, data_ty, HasScheme, EnvTy, IsApplied, BlockTy, StoreTy}
 use Rattle.sml_sound.proofs.Families.{inst_parts, library_closed}
 use Rattle.sml_sound.proofs.Tables.{con_same, applied_arg, data_takes, library_con}
@@ -34,7 +34,7 @@ use Rattle.sml_sound.proofs.Grow.{store_get}
 use Rattle.sml_sound.proofs.Values.{a_record, exn_con}
 use Rattle.sml_sound.proofs.Names.{in_front, in_back, rule_at}
 use Rattle.sml_sound.proofs.Environments.{look_front, look_back}
-use Rattle.sml_sound.proofs.Options.{bind_some, when_some, if_some}
+use Rattle.sml_def.proofs.Options.{bind_some, when_some, if_some}
 use Rattle.sml_types.proofs.TreeFacts.{inst_inst}
 
 -- what is bound: each item has the type of its name, which is one of those; and all of these are there
@@ -204,10 +204,7 @@ module _ (p : Bare) (t : Typing) (typing : IsTyping p t) (numbered : IsNumbered 
         let a : w ≡ v = cc in let b : x ≡ u = cc in subst (λ w. HasTy p t sig w u) a (subst (HasTy p t sig w) b h.0)
     have_at (w ∷ vs) (x ∷ us) (suc k) v u h e d = have_at vs us k v u h.1 e d
 
-    abbrev Placed : List Tree → List Field → Type 0
-    Placed us fields = AllByRecursion (λ f. slice_get us f.slot ≡ Some (inst g (t.types f.node))) fields
-
-    fields_ty : (part : ℕ → Value → Option Env) → FitsTy part → (fields : List Field) (vs : List Value) (us : List Tree) → HaveTys p t sig vs us → Placed us fields → IsWithin (free_fields (free p.nodes) fields) xs → IfSome (fields_fit p env bs part fields vs) (Bind (bound_in p t fields) (union_over (λ f. binds p.nodes f.node) fields))
+    fields_ty : (part : ℕ → Value → Option Env) → FitsTy part → (fields : List Field) (vs : List Value) (us : List Tree) → HaveTys p t sig vs us → Placed p t sig g us fields → IsWithin (free_fields (free p.nodes) fields) xs → IfSome (fields_fit p env bs part fields vs) (Bind (bound_in p t fields) (union_over (λ f. binds p.nodes f.node) fields))
     fields_ty part f [] vs us h q w = bound_none [] [] refl
     fields_ty part f (x ∷ fields) vs us h q w =
         let B = Bind (bound_in p t (x ∷ fields)) (union_over (λ f. binds p.nodes f.node) (x ∷ fields)) in
@@ -216,22 +213,13 @@ module _ (p : Bare) (t : Typing) (typing : IsTyping p t) (numbered : IsNumbered 
         (if_some (Bind (t.binds x.node) (binds p.nodes x.node)) (part x.node v) e he (f x.node v (λ z m. w z (within_left (free p.nodes x.node) (free_fields (free p.nodes) fields) z m)) (have_at vs us x.slot v (inst g (t.types x.node)) h ev q.0)))
         (if_some (Bind (bound_in p t fields) (union_over (λ f. binds p.nodes f.node) fields)) (fields_fit p env bs part fields vs) r hr (fields_ty part f fields vs us h q.1 (λ z m. w z (within_right (free p.nodes x.node) (free_fields (free p.nodes) fields) z m)))))))
 
-    get_map : (us : List Tree) (k : ℕ) (u : Tree) → slice_get us k ≡ Some u → slice_get (map (inst g) us) k ≡ Some (inst g u)
-    get_map [] k u e = cc
-    get_map (x ∷ us) zero u e = let a : x ≡ u = cc in ap (λ x. Some (inst g x)) a
-    get_map (x ∷ us) (suc k) u e = get_map us k u e
-
-    placed_in : (labs : List Lab) (us : List Tree) (fields : List Field) → AllByRecursion (λ (f : Labelled). (slice_get labs f.slot ≡ Some f.lab) × (slice_get us f.slot ≡ Some f.ty)) (fields_of p t fields) → Placed (map (inst g) us) fields
-    placed_in labs us [] h = tt
-    placed_in labs us (f ∷ fields) h = (get_map us f.slot (t.types f.node) h.0.1, placed_in labs us fields h.1)
-
     record_fit : (part : ℕ → Value → Option Env) → FitsTy part → (fields : List Field) (ty : Tree) (v : Value) → IsRecord (fields_of p t fields) ty → HasTy p t sig v (inst g ty) → IsWithin (free_fields (free p.nodes) fields) xs → IfSome (match.fields_of bs v >>= fields_fit p env bs part fields) (Bind (bound_in p t fields) (union_over (λ f. binds p.nodes f.node) fields))
     record_fit part f fields ty v r h w =
         let us = map (inst g) r.types in
         let k = a_record p t typing sig bs store r.labs us v (subst (HasTy p t sig v) (ap (inst g) r.is ∙ ap (App (FieldsHead r.labs)) (inst_parts g r.types)) h) in
         bind_some (Bind (bound_in p t fields) (union_over (λ f. binds p.nodes f.node) fields)) (match.fields_of bs v) _ (λ vs e.
         let same : k.0 ≡ vs = (let d = k.1 in cc) in
-        fields_ty part f fields vs us (subst (λ vs. HaveTys p t sig vs us) same k.2) (placed_in r.labs r.types fields r.placed) w)
+        fields_ty part f fields vs us (subst (λ vs. HaveTys p t sig vs us) same k.2) (placed_in p t sig g r.labs r.types fields r.placed) w)
 
     one_bound : (named all : List ℕ) (x : ℕ) (v : Value) → HasTy p t sig v (inst g (t.schemes x).body) → named ≡ x ∷ [] → all ≡ x ∷ [] → Bind named all ((x, v) ∷ [])
     one_bound named all x v h en ea = record {

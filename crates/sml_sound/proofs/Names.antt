@@ -1,4 +1,5 @@
 -- The variables that are free in a node are names of its context.
+use Rattle.sml_sound.proofs.Lists.{all_at, get_lt}
 use Rattle.std.proofs.Common.{◌≡◌, ℕ, zero, suc, ◌+◌, ◌<◌, ◌≤◌, true, false, List, [], ◌∷◌, ◌++◌, length, Some, refl, sym, ap, ◌∙◌, subst, arith}
 use Rattle.std.specs.Prelude.{slice_get, map, flat_map, nat_eq}
 use Rattle.std.specs.List.{AllByRecursion}
@@ -49,7 +50,7 @@ one_only : (x : ℕ) (ys : List ℕ) → In ys x → IsWithin (x ∷ []) ys
 one_only x ys h z g =
     either (nat_eq z x) false (In ys z) g (λ e. subst (In ys) (sym (eqb-true z x e)) h) (λ e. cc)
 
-self_in : (x : ℕ) → In (x ∷ []) x
+pub self_in : (x : ℕ) → In (x ∷ []) x
 self_in x = or_left (nat_eq x x) false (eq-eqb x x refl)
 
 within_nil : (ys : List ℕ) → IsWithin [] ys
@@ -64,18 +65,8 @@ pub sort_is : (nodes : List Node) (s : Sort) (c : ℕ) (n : Node) → slice_get 
 sort_is nodes s c n e h = let q : Some (sort_of n) ≡ Some s = ap (option_map sort_of) (sym e) ∙ h in cc
 
 module _ (p : Bare) (t : Typing) (typing : IsTyping p t) (numbered : IsNumbered p.nodes) (sorts : AllByRecursion (HasSorts p.nodes) p.nodes) where
-  pub at_all : {A : Type 0} (P : A → Type 0) (xs : List A) (i : ℕ) (x : A) → AllByRecursion P xs → slice_get xs i ≡ Some x → P x
-  at_all P [] i x h e = cc
-  at_all P (y ∷ xs) zero x h e = let same : y ≡ x = cc in subst P same h.0
-  at_all P (y ∷ xs) (suc i) x h e = at_all P xs i x h.1 e
-
   pub sorts_at : (i : ℕ) (n : Node) → slice_get p.nodes i ≡ Some n → HasSorts p.nodes n
-  sorts_at i n e = at_all (HasSorts p.nodes) p.nodes i n sorts e
-
-  pub get_lt : {A : Type 0} (xs : List A) (i : ℕ) (x : A) → slice_get xs i ≡ Some x → i < length xs
-  get_lt [] i x e = cc
-  get_lt (y ∷ xs) zero x e = omega arith
-  get_lt (y ∷ xs) (suc i) x e = let h = get_lt xs i x e in omega arith
+  sorts_at i n e = all_at (HasSorts p.nodes) p.nodes i n sorts e
 
   pub rule_at : (i : ℕ) (n : Node) → slice_get p.nodes i ≡ Some n → IsTypedNode p t (t.contexts i) (t.types i) (t.binds i) n
   rule_at i n e = typing.rules i n (get_lt p.nodes i n e) e
@@ -155,9 +146,6 @@ module _ (p : Bare) (t : Typing) (typing : IsTyping p t) (numbered : IsNumbered 
   all_parts : (P Q : ℕ → Type 0) (is : List ℕ) → ((i : ℕ) → P i → Q i) → AllByRecursion P is → AllByRecursion Q is
   all_parts P Q [] f h = tt
   all_parts P Q (i ∷ is) f h = (f i h.0, all_parts P Q is f h.1)
-
-  one_node : (i : ℕ) (m n : Node) → slice_get p.nodes i ≡ Some m → slice_get p.nodes i ≡ Some n → m ≡ n
-  one_node i m n e f = cc
 
   parts_of : (P : ℕ → Type 0) (i : ℕ) (n : Node) → slice_get p.nodes i ≡ Some n → ((c : ℕ) (m : Node) → slice_get p.nodes c ≡ Some m → i < c → P c) → AllByRecursion P (node_parts n)
   parts_of P i n e f =

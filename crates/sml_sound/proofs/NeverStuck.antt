@@ -18,7 +18,8 @@ use Rattle.sml_def.specs.Step.{step}
 use Rattle.sml_def.specs.Run as run
 use Rattle.sml_sound.specs.NeverStuck.{NeverStuck}
 use Rattle.sml_sound.specs.TypedStates.{one, ControlTy, IsExp, IsTyped}
-use Rattle.sml_sound.proofs.Safe.{Safe, step_safe}
+use Rattle.sml_sound.proofs.SafeActs.{Safe, Ready}
+use Rattle.sml_sound.proofs.Safe.{step_safe}
 
 module _ (p : Bare) (t : Typing) (typing : IsTyping p t) (bare : IsBare p) where
   abbrev Goes : run.State → Type 0
@@ -41,7 +42,8 @@ module _ (p : Bare) (t : Typing) (typing : IsTyping p t) (bare : IsBare p) where
     where
       on : (c : Control) → s.control.control ≡ c → ControlTy p t h.sig c → ((e : Ending) → c ≡ End e → ⊥) → Goes s
       on c e hc never =
-          acts s (step p (memory_of s) s.control.control) (subst (λ c. Safe p t s.store (step p (memory_of s) c)) (sym e) (step_safe p t typing bare (memory_of s) h.sig h.store h.descend c hc never))
+          let ready : Ready p t (memory_of s) h.sig = record { typing = typing; bare = bare; store = h.store; descend = h.descend } in
+          acts s (step p (memory_of s) s.control.control) (subst (λ c. Safe p t s.store (step p (memory_of s) c)) (sym e) (step_safe ready c hc never))
 
       go : (c : Control) → s.control.control ≡ c → ControlTy p t h.sig c → ((e : Ending) × (s.control.control ≡ End e)) ⊎ Goes s
       go (End e) q hc = inl (e, q)

@@ -1,5 +1,5 @@
 -- What a non-expansive node is made of, and what is new in a program's datatypes.
-use Rattle.std.proofs.Common.{◌≡◌, ◌≢◌, ◌<◌, ℕ, arith, ⊎_elim, inl, zero, suc, Bool, true, false, List, [], ◌∷◌, ◌++◌, length, Option, Some, None, refl, sym, ap, ◌∙◌, subst}
+use Rattle.std.proofs.Common.{◌≡◌, ◌≢◌, ℕ, arith, ⊎_elim, inl, zero, suc, Bool, true, false, List, [], ◌∷◌, ◌++◌, length, Option, Some, None, refl, sym, ap, ◌∙◌, subst}
 use Rattle.std.specs.Prelude.{slice_get, flat_map, map, nat_eq, cond, unwrap_or, ◌||◌, ◌+◌}
 use Rattle.std.specs.List.{AllByRecursion}
 use Rattle.std.specs.Option.{is_some}
@@ -24,6 +24,7 @@ use Rattle.sml_types.specs.Library.{BeginsWithLibrary, NameType, arg_of, library
 use Rattle.sml_types.specs.Equality.{choose, IsGreatest}
 use Rattle.sml_types.specs.NonExpansive.{AreNonExpansive, is_atomic, is_ref, field_nodes, plain_none, plain_atom, plain_record, plain_applied, plain_typed}
 use Rattle.sml_types.specs.Typing.{Typing, IsTyping, IsDatBinding, Covers, CoversArgument, type_numbers}
+use Rattle.sml_sound.proofs.Lists.{all_at, get_lt}
 use Rattle.sml_sound.specs.TypedStates.{IsCon}
 use Rattle.sml_sound.proofs.Tables.{library_has, row_at}
 
@@ -115,11 +116,6 @@ module _ (p : Bare) (t : Typing) where
       let list : Covers (a ∷ []) (tuple (Variable a ∷ list_ty (Variable a) ∷ [])) = (inl refl, ((inl refl, none), none)) in
       (none, (none, (none, (none, ((none, (none, none)), ((none, (list, none)), ((none, (inl refl, none)), ((none, (none, (none, none))), ((inl refl, none), (none, none))))))))))
 
-  all_at : {A : Type 0} (P : A → Type 0) (xs : List A) (i : ℕ) (x : A) → AllByRecursion P xs → slice_get xs i ≡ Some x → P x
-  all_at P [] i x h e = cc
-  all_at P (y ∷ xs) zero x h e = let same : y ≡ x = cc in subst P same h.0
-  all_at P (y ∷ xs) (suc i) x h e = all_at P xs i x h.1 e
-
   -- a type name of the library
   base_covers : (lib : BeginsWithLibrary t.forms t.names) (n k : ℕ) (ps : List TyVar) (a : Tree) (r : NameType) → slice_get (library lib.param) n ≡ Some r → IsCon p t n k ps (Some a) → Covers ps a
   base_covers lib n k ps a r e h =
@@ -161,11 +157,6 @@ module _ (p : Bare) (t : Typing) where
       here : (q : Node) → ((i : ℕ) (bindings : List DatBinding) → slice_get (q ∷ nodes) i ≡ Some (node.Datatype bindings) → AllByRecursion (IsDatBinding p t) bindings) → slice_get (declared_by n q) k ≡ Some takes → (d : DatBinding) × (d.type_name ≡ n) × IsDatBinding p t d
       here (node.Datatype bindings) h e = binding_of bindings n k takes (h 0 bindings refl) e
       here _ h e = cc
-
-  get_lt : {A : Type 0} (xs : List A) (i : ℕ) (x : A) → slice_get xs i ≡ Some x → i < length xs
-  get_lt [] i x e = cc
-  get_lt (y ∷ xs) zero x e = omega arith
-  get_lt (y ∷ xs) (suc i) x e = let h = get_lt xs i x e in omega arith
 
   pub con_covers : IsTyping p t → (n k : ℕ) (takes : Bool) (ps : List TyVar) (a : Tree) → slice_get (cons_of p.nodes n) k ≡ Some takes → IsCon p t n k ps (Some a) → Covers ps a
   con_covers typing n k takes ps a stands h =

@@ -15,6 +15,7 @@ use Rattle.sml_types.specs.TypeExps.{Labelled, IsRecord}
 use Rattle.sml_types.specs.Typing.{Typing, fields_of}
 use Rattle.sml_def.specs.State.{Value, Env, look, cut}
 use Rattle.sml_def.specs.Step.{count_up, by_label}
+use Rattle.sml_sound.proofs.Lists.{get_lt, get_map}
 use Rattle.sml_sound.specs.TypedStates.{Entry, HasTy, HaveTys, BeforeTy}
 
 -- ---- So many distinct numbers below a number are all of these
@@ -86,26 +87,16 @@ all_there n k xs d h l lt = go (has xs k) refl
 -- ---- Values by their slots
 
 module _ (p : Bare) (t : Typing) (sig : List Entry) (g : TyVar → Tree) where
-  get_lt : {A : Type 0} (xs : List A) (i : ℕ) (x : A) → slice_get xs i ≡ Some x → i < length xs
-  get_lt [] i x e = cc
-  get_lt (y ∷ xs) zero x e = omega arith
-  get_lt (y ∷ xs) (suc i) x e = let h = get_lt xs i x e in omega arith
-
-  get_map : (us : List Tree) (k : ℕ) (u : Tree) → slice_get us k ≡ Some u → slice_get (map (inst g) us) k ≡ Some (inst g u)
-  get_map [] k u e = cc
-  get_map (x ∷ us) zero u e = let a : x ≡ u = cc in ap (λ x. Some (inst g x)) a
-  get_map (x ∷ us) (suc k) u e = get_map us k u e
-
   length_map : (us : List Tree) → length (map (inst g) us) ≡ length us
   length_map [] = refl
   length_map (u ∷ us) = ap suc (length_map us)
 
-  abbrev Placed : List Tree → List Field → Type 0
+  abbrev pub Placed : List Tree → List Field → Type 0
   Placed us fields = AllByRecursion (λ f. slice_get us f.slot ≡ Some (inst g (t.types f.node))) fields
 
-  placed_in : (labs : List Lab) (us : List Tree) (fields : List Field) → AllByRecursion (λ (f : Labelled). (slice_get labs f.slot ≡ Some f.lab) × (slice_get us f.slot ≡ Some f.ty)) (fields_of p t fields) → Placed (map (inst g) us) fields
+  pub placed_in : (labs : List Lab) (us : List Tree) (fields : List Field) → AllByRecursion (λ (f : Labelled). (slice_get labs f.slot ≡ Some f.lab) × (slice_get us f.slot ≡ Some f.ty)) (fields_of p t fields) → Placed (map (inst g) us) fields
   placed_in labs us [] h = tt
-  placed_in labs us (f ∷ fields) h = (get_map us f.slot (t.types f.node) h.0.1, placed_in labs us fields h.1)
+  placed_in labs us (f ∷ fields) h = (get_map (inst g) us f.slot (t.types f.node) h.0.1, placed_in labs us fields h.1)
 
   abbrev pub slots : List Field → List ℕ
   slots fields = map (λ f. f.slot) fields

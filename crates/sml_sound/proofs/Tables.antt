@@ -1,4 +1,5 @@
 -- The constructors of the tables.
+use Rattle.sml_sound.proofs.Lists.{some_eq}
 use Rattle.std.proofs.Common.{◌≡◌, ℕ, zero, suc, true, false, List, [], ◌∷◌, Option, Some, None, refl, sym, ap, ◌∙◌, subst}
 use Rattle.std.specs.Prelude.{slice_get, take}
 use Rattle.sml_tree.specs.declared.bare.Bare.{Bare}
@@ -15,9 +16,6 @@ use Rattle.sml_types.specs.Typing.{Typing, variables, con_ty, TakesAs, IsDataPol
 use Rattle.sml_sound.specs.TypedStates.{IsCon, data_ty, IsApplied, HasTy, Entry}
 use Rattle.sml_sound.proofs.Families.{covered}
 use Rattle.sml_def.specs.State.{Value}
-
-some_eq : {A : Type 0} (x y : A) → Some x ≡ Some y → x ≡ y
-some_eq x y e = cc
 
 get_take : {A : Type 0} (k : ℕ) (xs : List A) (n : ℕ) (r : A) → slice_get (take k xs) n ≡ Some r → slice_get xs n ≡ Some r
 get_take zero xs n r e = cc

@@ -1,5 +1,5 @@
 -- What the values of a type are.
-use Rattle.std.proofs.Common.{◌≡◌, ℕ, zero, suc, ◌<◌, List, [], ◌∷◌, length, Option, Some, None, refl, sym, ap, ◌∙◌, subst, arith, ◌⊎◌, inl, inr}
+use Rattle.std.proofs.Common.{◌≡◌, ℕ, zero, suc, ◌<◌, List, [], ◌∷◌, length, Option, Some, None, refl, sym, ap, ◌∙◌, subst, ◌⊎◌, inl, inr}
 use Rattle.std.specs.Prelude.{slice_get, ℤ, codes}
 use Rattle.smlc_base.specs.declared.primitive.Primitive.{Primitive}
 use Rattle.smlc_base.specs.declared.primitive.Primitive.TheVariants as prim
@@ -19,13 +19,11 @@ use Rattle.sml_def.specs.Maybe.{or_else}
 use Rattle.sml_def.specs.State.{Value, Number, Letter, Nothing, Tag, Constant, Builtin, Maker, RefMaker, Library, At, Env, Address, Block, Tuple, Applied, Text, Cell, ExnName, Packet, Closure}
 use Rattle.sml_def.specs.Match.{bytes_of, text_block, fields_of, tuple_block, packet_block, block_of}
 use Rattle.sml_def.specs.Step.{exn_name, name_of, spelled, exn_text}
+use Rattle.sml_sound.proofs.Lists.{get_lt, some_eq}
 use Rattle.sml_sound.specs.TypedStates.{Family, InFamily, Entry, Holds, Names, EntryTy, HasTy, HaveTys, IsName, IsCon, data_ty, Making, IsMaking, EnvTy, IsTuple, IsApplied, BlockTy, StoreTy}
 use Rattle.sml_sound.proofs.Families.{parts_same}
 use Rattle.sml_sound.proofs.Tables.{library_has, library_con, applied_arg}
 use Rattle.sml_sound.proofs.Grow.{store_get}
-
-some_eq : {A : Type 0} (x y : A) → Some x ≡ Some y → x ≡ y
-some_eq x y e = cc
 
 prim_ty : (f : Primitive) (g : TyVar → Tree) → ((a : Tree) × (b : Tree) × (inst g (primitive_poly f).body ≡ arrow a b)) ⊎ (f ≡ prim.StdIn)
 prim_ty prim.StdIn g = inr refl
@@ -54,11 +52,6 @@ module _ (p : Bare) (t : Typing) (typing : IsTyping p t) (sig : List Entry) (bs 
     a_cell : (a : Address) (w : Value) (b : Tree) (f : Family) → v ≡ At a → slice_get bs a ≡ Some (Cell w) → slice_get sig a ≡ Some (Holds f) → ((u : Tree) → InFamily f u → u ≡ ref_ty b) → HasTy p t sig w b → u ≡ ref_ty b → View v u
     a_packet : (a : Address) (x w : Value) (b : Tree) → v ≡ At a → slice_get bs a ≡ Some (Packet x w) → IsName p t sig x (arrow b exn_ty) → HasTy p t sig w b → u ≡ exn_ty → View v u
     a_closure : (a : Address) (i : ℕ) (rules : List Rule) (env : Env) (g : TyVar → Tree) (b c : Tree) → v ≡ At a → slice_get bs a ≡ Some (Closure i rules env) → slice_get p.nodes i ≡ Some (node.Fn rules) → u ≡ inst g (t.types i) → u ≡ arrow b c → EnvTy p t sig g (free p.nodes i) env → View v u
-
-  get_lt : {A : Type 0} (xs : List A) (i : ℕ) (x : A) → slice_get xs i ≡ Some x → i < length xs
-  get_lt [] i x e = cc
-  get_lt (y ∷ xs) zero x e = omega arith
-  get_lt (y ∷ xs) (suc i) x e = let h = get_lt xs i x e in omega arith
 
   view_primitive : (f : Primitive) (g : TyVar → Tree) (u : Tree) → u ≡ inst g (primitive_poly f).body → ((a : Tree) × (b : Tree) × (inst g (primitive_poly f).body ≡ arrow a b)) ⊎ (f ≡ prim.StdIn) → View (Builtin f) u
   view_primitive f g u e (inl h) = a_primitive f g h.0 h.1 refl e (e ∙ h.2)

@@ -97,7 +97,7 @@ sum_same f g [] h = refl
 sum_same f g (c ∷ cs) h = ap (λ m. m + sum_of f cs) h.0 ∙ ap (λ m. g c + m) (sum_same f g cs h.1)
 
 module _ (nodes : List Node) (numbered : IsNumbered nodes) (preorder : IsPreorder nodes) where
-  size_unfold : (i : ℕ) → size nodes i ≡ at_node 0 size_of (size nodes) i (slice_get nodes i)
+  pub size_unfold : (i : ℕ) → size nodes i ≡ at_node 0 size_of (size nodes) i (slice_get nodes i)
   size_unfold i = by_parts 0 size_of (λ x y. x ≡ y) refl (λ f g i n h. ap suc (sum_same f g (node_parts n) h)) nodes numbered i
 
   abbrev Spans : ℕ → Context → Type 0

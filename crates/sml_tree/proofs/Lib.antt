@@ -6,7 +6,8 @@ pub mod Members
 pub mod Walk
 pub mod SameParts
 pub mod Programs
-mod Worked
+pub mod Worked
 pub mod Ascends
 pub mod EachNode
 pub mod AscendingSets
+pub mod Held

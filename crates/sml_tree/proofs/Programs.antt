@@ -116,3 +116,8 @@ texts = program ((node.Let 1 35) ∷ (node.Val [] ((binding 2 3) ∷ [])) ∷ no
 -- val _ = print (if even 4 then "e" else "o")
 abbrev pub refs : Bare
 refs = program ((node.Let 1 6) ∷ (node.Val [] ((binding 2 3) ∷ [])) ∷ (node.PatVar (name 0)) ∷ (node.App 4 5) ∷ (node.Constructor con.Ref) ∷ (node.Int (pos 1)) ∷ (node.Let 7 20) ∷ (node.Val [] ((binding 8 9) ∷ [])) ∷ node.Wild ∷ (node.App 10 11) ∷ (node.Builtin prim.Assign) ∷ (node.Record ((field (lab.Num (pos 1)) 0 12) ∷ (field (lab.Num (pos 2)) 1 13) ∷ [])) ∷ (node.Var (name 0)) ∷ (node.App 14 15) ∷ (node.Builtin prim.Plus) ∷ (node.Record ((field (lab.Num (pos 1)) 0 16) ∷ (field (lab.Num (pos 2)) 1 19) ∷ [])) ∷ (node.App 17 18) ∷ (node.Builtin prim.Deref) ∷ (node.Var (name 0)) ∷ (node.Int (pos 1)) ∷ (node.Let 21 37) ∷ (node.Val [] ((binding 22 23) ∷ [])) ∷ node.Wild ∷ (node.App 24 25) ∷ (node.Builtin prim.Print) ∷ (node.Case 26 ((rule 33 34) ∷ (rule 35 36) ∷ [])) ∷ (node.App 27 28) ∷ (node.Builtin prim.Equal) ∷ (node.Record ((field (lab.Num (pos 1)) 0 29) ∷ (field (lab.Num (pos 2)) 1 32) ∷ [])) ∷ (node.App 30 31) ∷ (node.Builtin prim.Deref) ∷ (node.Var (name 0)) ∷ (node.Int (pos 2)) ∷ (node.PatCon (con.Data 4 1 false)) ∷ (node.Text 0) ∷ (node.PatCon (con.Data 4 0 false)) ∷ (node.Text 1) ∷ (node.Let 38 61) ∷ (node.ValRec [] ((function 1 39) ∷ (function 2 50) ∷ [])) ∷ (node.Fn ((rule 40 41) ∷ (rule 42 43) ∷ [])) ∷ (node.PatInt (pos 0)) ∷ (node.Constructor (con.Data 4 1 false)) ∷ (node.PatVar (name 3)) ∷ (node.App 44 45) ∷ (node.Var (name 2)) ∷ (node.App 46 47) ∷ (node.Builtin prim.Minus) ∷ (node.Record ((field (lab.Num (pos 1)) 0 48) ∷ (field (lab.Num (pos 2)) 1 49) ∷ [])) ∷ (node.Var (name 3)) ∷ (node.Int (pos 1)) ∷ (node.Fn ((rule 51 52) ∷ (rule 53 54) ∷ [])) ∷ (node.PatInt (pos 0)) ∷ (node.Constructor (con.Data 4 0 false)) ∷ (node.PatVar (name 4)) ∷ (node.App 55 56) ∷ (node.Var (name 1)) ∷ (node.App 57 58) ∷ (node.Builtin prim.Minus) ∷ (node.Record ((field (lab.Num (pos 1)) 0 59) ∷ (field (lab.Num (pos 2)) 1 60) ∷ [])) ∷ (node.Var (name 4)) ∷ (node.Int (pos 1)) ∷ (node.Let 62 74) ∷ (node.Val [] ((binding 63 64) ∷ [])) ∷ node.Wild ∷ (node.App 65 66) ∷ (node.Builtin prim.Print) ∷ (node.Case 67 ((rule 70 71) ∷ (rule 72 73) ∷ [])) ∷ (node.App 68 69) ∷ (node.Var (name 1)) ∷ (node.Int (pos 4)) ∷ (node.PatCon (con.Data 4 1 false)) ∷ (node.Text 2) ∷ (node.PatCon (con.Data 4 0 false)) ∷ (node.Text 3) ∷ node.Finish ∷ []) ((codes "r") ∷ (codes "even") ∷ (codes "odd") ∷ (codes "n") ∷ (codes "n") ∷ []) ((codes "t") ∷ (codes "f") ∷ (codes "e") ∷ (codes "o") ∷ [])
+
+-- exception E
+-- val f = fn x => (raise E) handle E => x
+abbrev pub raising : Bare
+raising = program ((node.Let 1 2) ∷ (node.Exception (name 0) None) ∷ (node.Let 3 12) ∷ (node.Val [] ((binding 4 5) ∷ [])) ∷ (node.PatVar (name 1)) ∷ (node.Fn ((rule 6 7) ∷ [])) ∷ (node.PatVar (name 2)) ∷ (node.Handle 8 ((rule 10 11) ∷ [])) ∷ (node.Raise 9) ∷ (node.Constructor (con.Exn (name 0) false)) ∷ (node.PatCon (con.Exn (name 0) false)) ∷ (node.Var (name 2)) ∷ node.Finish ∷ []) ((codes "E") ∷ (codes "f") ∷ (codes "x") ∷ []) ([])

@@ -1,13 +1,17 @@
 -- Points and widths of small programs, as an independent model computes them.
-use Rattle.std.proofs.Common.{◌≡◌, [], ◌∷◌, Some, None, refl, arith}
+use Rattle.std.proofs.Common.{◌≡◌, ℕ, Bool, List, [], ◌∷◌, Some, None, length, refl, subst, arith}
+use Rattle.smlc_base.specs.declared.place.Place.{Place}
+use Rattle.sml_tree.specs.declared.bare.Node.{Node}
+use Rattle.sml_tree.specs.declared.bare.TypeExp.{TypeExp}
 use Rattle.std.specs.Prelude.{map}
 use Rattle.smlc_base.specs.declared.point.PointKind.TheVariants as kind
 use Rattle.sml_tree.specs.Points.{point, spot, spots}
 use Rattle.sml_tree.specs.Width.{width}
 use Rattle.sml_tree.specs.declared.bare.Bare.{Bare}
+use Rattle.sml_tree.specs.BareParts.{IsNumbered}
 use Rattle.sml_tree.specs.IsBare.{IsBare}
 use Rattle.sml_tree.proofs.EachNode.{numbered_by_list, preorder_by_list}
-use Rattle.sml_tree.proofs.Programs.{user, hello, handled, caught, local_exception, written_order, bind_first, lists, packets, lines, ints, texts, refs}
+use Rattle.sml_tree.proofs.Programs.{user, hello, handled, caught, local_exception, written_order, bind_first, lists, packets, lines, ints, texts, refs, raising}
 
 hello_spots : spots hello.nodes ≡ (spot 3 kind.Ret 0 None) ∷ (spot 4 kind.Ret 0 (Some (point 3 kind.Ret))) ∷ (spot 5 kind.Ret 1 (Some (point 3 kind.Ret))) ∷ []
 hello_spots = refl
@@ -81,7 +85,13 @@ refs_spots = refl
 refs_width : width refs.nodes (map (λ n. user) refs.nodes) ≡ 108
 refs_width = refl
 
--- ---- One of them with what a bare tree has beside its nodes
+raising_spots : spots raising.nodes ≡ (spot 5 kind.Fn 1 None) ∷ (spot 5 kind.Ret 0 None) ∷ (spot 7 kind.Caught 2 None) ∷ (spot 7 kind.Popped 2 None) ∷ (spot 9 kind.Ret 0 (Some (point 7 kind.Caught))) ∷ []
+raising_spots = refl
+
+raising_width : width raising.nodes (map (λ n. user) raising.nodes) ≡ 18
+raising_width = refl
+
+-- ---- Two of them with what a bare tree has beside its nodes
 
 abbrev hello_tree : Bare
 hello_tree = record hello { decs = 0 ∷ []; shown = 1 ∷ []; width = 8 }
@@ -105,3 +115,38 @@ hello_is_bare = record {
   width = refl;
   narrow = omega arith;
 }
+
+raising_numbered : IsNumbered raising.nodes
+raising_numbered =
+    numbered_by_list raising.nodes (((omega arith, omega arith), ((omega arith, omega arith), tt)), (tt, (((omega arith, omega arith), ((omega arith, omega arith), tt)), (((omega arith, omega arith), ((omega arith, omega arith), tt)), (tt, (((omega arith, omega arith), ((omega arith, omega arith), tt)), (tt, (((omega arith, omega arith), ((omega arith, omega arith), ((omega arith, omega arith), tt))), (((omega arith, omega arith), tt), (tt, (tt, (tt, (tt, tt)))))))))))))
+
+-- with any three names
+abbrev raising_tree : List (List ℕ) → Bare
+raising_tree names = record raising { decs = 0 ∷ 2 ∷ []; shown = 3 ∷ []; names = names; width = 18 }
+
+raising_is_bare : (names : List (List ℕ)) → length names ≡ 3 → IsBare (raising_tree names)
+raising_is_bare names e = record {
+  few = omega arith;
+  numbered = raising_numbered;
+  preorder = preorder_by_list raising.nodes ((refl, (refl, tt)), (tt, ((refl, (refl, tt)), ((refl, (refl, tt)), (tt, ((refl, (refl, tt)), (tt, ((refl, (refl, (refl, tt))), ((refl, tt), (tt, (tt, (tt, (tt, tt))))))))))))) refl;
+  places = refl;
+  sorts = ((refl, refl), (tt, ((refl, refl), (((refl, refl), tt), (tt, (((refl, refl), tt), (tt, ((refl, ((refl, refl), tt)), (refl, (tt, (tt, (tt, (tt, tt)))))))))))));
+  stands = (tt, ((omega arith, tt), (tt, (tt, (omega arith, (tt, (omega arith, (tt, (tt, (omega arith, (omega arith, (omega arith, (tt, tt)))))))))))));
+  types = λ i t e. cc;
+  bound = refl;
+  once = (refl, (refl, (refl, tt)));
+  nest = refl;
+  end = refl;
+  decs = ((omega arith, (omega arith, tt)), (refl, (refl, tt)));
+  first_dec = refl;
+  shown = ((omega arith, tt), (refl, tt));
+  width = refl;
+  narrow = omega arith;
+}
+
+-- built from its parts
+pub raising_built : (nodes : List Node) (places : List Place) (decs shown : List ℕ) (types : List TypeExp) (tyvars : List Bool) (names texts : List (List ℕ)) → nodes ≡ raising.nodes → places ≡ raising.places → decs ≡ 0 ∷ 2 ∷ [] → shown ≡ 3 ∷ [] → types ≡ [] → tyvars ≡ [] → length names ≡ 3 → texts ≡ [] → IsBare (record { nodes = nodes; places = places; decs = decs; shown = shown; types = types; tyvars = tyvars; names = names; texts = texts; width = 18 })
+raising_built nodes places decs shown types tyvars names texts en ep ed es et ev e ex =
+    let made : Bare = record { nodes = nodes; places = places; decs = decs; shown = shown; types = types; tyvars = tyvars; names = names; texts = texts; width = 18 } in
+    let same : raising_tree names ≡ made = rw (en, ep, ed, es, et, ev, ex) refl in
+    subst IsBare same (raising_is_bare names e)

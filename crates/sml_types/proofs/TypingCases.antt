@@ -1,6 +1,6 @@
 -- Small programs, held against the definition of a typing.
 use Rattle.std.proofs.Common.{Bool, ◌≡◌, ℕ, zero, suc, ◌<◌, true, false, List, [], ◌∷◌, Option, Some, None, refl, sym, ap, ◌∙◌, arith, inl, inr, ◌⊎◌, subst}
-use Rattle.std.specs.Prelude.{cond, slice_get, get_or, codes, pos}
+use Rattle.std.specs.Prelude.{cond, slice_get, get_or, codes, pos, take}
 use Rattle.std.specs.List.{AllByRecursion}
 use Rattle.smlc_base.specs.declared.names.Name.{Name}
 use Rattle.sml_tree.specs.declared.bare.Bare.{Bare}
@@ -19,7 +19,7 @@ use Rattle.sml_types.specs.declared.tables.TypeName.{TypeName}
 use Rattle.sml_types.specs.Tree.{Tree, Variable, size}
 use Rattle.sml_types.specs.Forms.{trees, tree}
 use Rattle.sml_types.specs.Poly.{Poly, poly, mono, is_in, Context, IsInstance, scheme_in}
-use Rattle.sml_types.specs.Library.{arrow, unit_ty, library_names, BeginsWithLibrary}
+use Rattle.sml_types.specs.Library.{arrow, unit_ty, library_names, BeginsWithLibrary, library, name_types}
 use Rattle.sml_types.specs.NonExpansive.{AreNonExpansive, is_atomic, is_ref, plain_none, plain_atom, plain_record, plain_applied, plain_typed}
 use Rattle.sml_types.specs.Typing.{Typing, IsTypedNode, IsTyping}
 use Rattle.sml_types.proofs.TreeFacts.{inst_id, inst_same}
@@ -133,7 +133,7 @@ open_cell_is_mono t h = closed.0 ∙ nothing_general t at1.0.0.2.1
 
 -- ---- val id = fn x => x
 
-abbrev identity : Bare
+abbrev pub identity : Bare
 identity =
     program
     (node.Let 1 6
@@ -145,7 +145,7 @@ identity =
     ∷ node.Finish
     ∷ [])
 
-abbrev a_var : TyVar
+abbrev pub a_var : TyVar
 a_var = record { num = 0; eq = false }
 
 abbrev a_ty : Tree
@@ -154,7 +154,7 @@ a_ty = Variable a_var
 abbrev id_ty : Tree
 id_ty = arrow a_ty a_ty
 
-abbrev id_poly : Poly
+abbrev pub id_poly : Poly
 id_poly = poly (a_var ∷ []) id_ty
 
 abbrev within : List ℕ → Context
@@ -187,11 +187,11 @@ library_rows =
     ∷ []
 
 -- the library's rows can be had
-library_there : BeginsWithLibrary library_forms library_rows
+library_there : take 10 (name_types library_forms library_rows) ≡ library a_var
 unfolding trees tree
-library_there = record { param = a_var; plain = refl; rows = refl }
+library_there = refl
 
-abbrev typing : Typing
+abbrev pub typing : Typing
 typing =
     record {
       types = λ i. get_or (unit_ty ∷ unit_ty ∷ id_ty ∷ id_ty ∷ a_ty ∷ a_ty ∷ unit_ty ∷ []) i unit_ty;
@@ -223,4 +223,4 @@ rules (suc (suc (suc (suc (suc (suc (suc i))))))) n l e = absurd (omega arith)
 
 -- it has a typing in which its name has the scheme of all types 'a -> 'a
 pub identity_is_typed : IsTyping identity typing
-identity_is_typed = record { root = refl; library = library_there; rules = rules }
+identity_is_typed = record { root = refl; library = record { param = a_var; plain = refl; rows = library_there }; parameter = refl; declared = refl; rules = rules }

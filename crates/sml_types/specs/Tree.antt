@@ -33,6 +33,13 @@ occurs x (App h ts) = occurs x ts
 occurs x NoParts = false
 occurs x (Part t ts) = occurs x t || occurs x ts
 
+-- what holds of each variable that stands in a type
+abbrev pub AllVars : (TyVar → Type 0) → Tree → Type 0
+AllVars P (Variable v) = P v
+AllVars P (App h ts) = AllVars P ts
+AllVars P NoParts = Unit {0}
+AllVars P (Part t ts) = AllVars P t × AllVars P ts
+
 -- how large a type is
 abbrev pub size : Tree → ℕ
 size (Variable v) = 1

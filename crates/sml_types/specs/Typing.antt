@@ -1,5 +1,5 @@
 -- A typing of a bare tree: types are guessed, and each node's rule is asked of them.
-use Rattle.std.specs.Prelude.{◌≡◌, ℕ, suc, ◌<◌, Bool, true, false, ◌⊎◌, Option, Some, None, List, [], ◌∷◌, ◌++◌, length, slice_get, get_or}
+use Rattle.std.specs.Prelude.{◌≡◌, ℕ, suc, ◌<◌, Bool, true, false, ◌⊎◌, Option, Some, None, List, [], ◌∷◌, ◌++◌, ◌+◌, length, slice_get, get_or, take, flat_map}
 use Rattle.std.specs.List.{AllByRecursion}
 use Rattle.sml_tree.specs.declared.bare.Bare.{Bare}
 use Rattle.sml_tree.specs.declared.bare.Con.{Con}
@@ -89,6 +89,14 @@ group_names (b ∷ bindings) = b.name.0 ∷ group_names bindings
 abbrev pub made_by : Option Node → List ℕ
 made_by (Some (node.Datatype bindings)) = type_numbers bindings
 made_by _ = []
+
+-- the type names that the nodes below a number make
+abbrev pub made_below : List Node → ℕ → List ℕ
+made_below nodes count = flat_map (λ n. made_by (Some n)) (take count nodes)
+
+-- the parameter of the library's type names: the first variable behind the explicit ones
+abbrev pub library_param : Bare → TyVar
+library_param p = record { num = length p.tyvars; eq = false }
 
 abbrev pub IsAmong : TyVar → List TyVar → Type 0
 IsAmong v [] = ⊥
@@ -255,10 +263,12 @@ module _ (p : Bare) (t : Typing) where
   abbrev pub start : Context
   start = record { type_names = library_names; tyvars = []; names = []; own = [] }
 
-  -- a typing of the nodes below a number
+  -- a typing of the nodes below a number; its tables have the type names of the library and those that these nodes declare, and no others
   pub record IsTypingBelow (count : ℕ) : Type 0 where
     pub root : t.contexts 0 ≡ start
     pub library : BeginsWithLibrary t.forms t.names
+    pub parameter : library.param ≡ library_param p
+    pub declared : length t.names ≡ length library_names + length (made_below p.nodes count)
     pub rules : (i : ℕ) (n : Node) → i < count → slice_get p.nodes i ≡ Some n → IsTypedNode (t.contexts i) (t.types i) (t.binds i) n
 
   abbrev pub IsTyping : Type 0

@@ -14,7 +14,7 @@ use Rattle.sml_types.proofs.FormFacts.{tree_more, tree_new}
 use Rattle.sml_unify.specs.declared.pair.Pair.{Pair}
 use Rattle.sml_unify.specs.Solved.{bound_at, Substitution, Solves, Respects, IsSolved, IsEqualPair, IsBoundTo, above, next_number, var_weight, weight, rounds, meant, under}
 use Rattle.sml_unify.specs.Simplified.{IsBinding, IsToMark}
-use Rattle.sml_unify.specs.Steps.{IsLonger, IsExtension}
+use Rattle.sml_unify.specs.Steps.{IsLonger, IsExtensionFrom}
 use Rattle.sml_types.proofs.TreeFacts.{inst_same}
 use Rattle.sml_unify.proofs.MarksKept.{bind_marks, vars_both, vars_clear, under_open}
 use Rattle.sml_unify.proofs.MarkFails.{clear_vars}
@@ -24,12 +24,12 @@ use Rattle.sml_unify.proofs.Heads.{tree_var}
 use Rattle.sml_unify.proofs.Numbers.{above_at, under_agrees}
 use Rattle.sml_unify.proofs.Bindings.{bound_solved, bound_before, bound_after, weight_falls, weight_more}
 
-more_keeps : (xs : List TyForm) (y : TyForm) (i : ℕ) (f : TyForm) → slice_get xs i ≡ Some f → slice_get (xs ++ y ∷ []) i ≡ Some f
+pub more_keeps : (xs : List TyForm) (y : TyForm) (i : ℕ) (f : TyForm) → slice_get xs i ≡ Some f → slice_get (xs ++ y ∷ []) i ≡ Some f
 more_keeps [] y i f q = cc
 more_keeps (x ∷ xs) y zero f q = q
 more_keeps (x ∷ xs) y (suc i) f q = more_keeps xs y i f q
 
-more_last : (xs : List TyForm) (y : TyForm) → slice_get (xs ++ y ∷ []) (length xs) ≡ Some y
+pub more_last : (xs : List TyForm) (y : TyForm) → slice_get (xs ++ y ∷ []) (length xs) ≡ Some y
 more_last [] y = refl
 more_last (x ∷ xs) y = more_last xs y
 
@@ -51,8 +51,8 @@ same_longer forms = record { count = omega arith; keeps = λ i f q. q; trees = �
 
 -- a variable is bound to another type that it does not stand in
 module _ (names : List TypeName) (forms : List TyForm) (bound : List (Option Ty)) (s : IsSolved forms bound) (p : Pair) (k : IsBinding forms bound p) (clear : occurs k.var.num (under forms (meant forms bound) p.right.0) ≡ false) (after : List (Option Ty)) (b : IsBoundTo bound k.var.num p.right after) (more : length bound ≤ length after) (marked : k.var.eq ≡ true → admits names (under forms (meant forms bound) p.right.0) ≡ true) where
-  pub bind_extends : IsExtension names forms bound (p ∷ []) forms after
-  bind_extends =
+  pub bind_extends : (next : ℕ) → IsExtensionFrom names next forms bound (p ∷ []) forms after
+  bind_extends next =
       record {
         solved = bound_solved forms bound s k.var.num p.right after b k.unbound clear k.within.1;
         longer = same_longer forms;
@@ -81,7 +81,7 @@ module _ (names : List TypeName) (forms : List TyForm) (bound : List (Option Ty)
       go false w = omega arith
 
 -- a new marked variable
-module _ (forms : List TyForm) (bound : List (Option Ty)) (s : IsSolved forms bound) (z : TyVar) (n : z.num ≡ next_number forms bound) where
+module _ (forms : List TyForm) (bound : List (Option Ty)) (s : IsSolved forms bound) (z : TyVar) (n : next_number forms bound ≤ z.num) where
   new_unbound : bound_at bound z.num ≡ None
   new_unbound = bound_cases bound z.num (bound_at bound z.num ≡ None) (λ e. e) (λ t e. let w = bound_within bound z.num t e in absurd (omega arith))
 
@@ -217,7 +217,7 @@ module _ (forms : List TyForm) (bound : List (Option Ty)) (s : IsSolved forms bo
     needs f r h e =
         m.needed f h (sym (ap (admits names) e) ∙ ap (λ u. admits names (inst f u)) (tree_var forms bound p.left.0 k.var s k.here) ∙ r p.left.0 k.var k.here marked)
 
-    pub mark_extends : IsExtension names forms bound (p ∷ []) (forms ++ Var z ∷ []) after
+    pub mark_extends : IsExtensionFrom names z.num forms bound (p ∷ []) (forms ++ Var z ∷ []) after
     mark_extends =
         record {
           solved = bound_solved (forms ++ Var z ∷ []) bound new_solved v.num t after b m.unbound new_clear new_there;

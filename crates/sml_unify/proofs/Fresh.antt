@@ -11,8 +11,8 @@ use Rattle.sml_types.specs.declared.tables.TypeName.{TypeName}
 use Rattle.sml_types.specs.Tree.{inst, occurs, admits}
 use Rattle.sml_types.specs.Forms.{tree, AreForms, AreApplied, IsApplied}
 use Rattle.sml_types.proofs.TreeFacts.{inst_same}
-use Rattle.sml_unify.specs.Solved.{bound_at, Respects, AreBindings, IsSolved, next_number, rounds, meant}
-use Rattle.sml_unify.specs.Steps.{IsLonger, IsFresh, AreFresh}
+use Rattle.sml_unify.specs.Solved.{bound_at, Respects, AreBindings, IsSolved, rounds, meant}
+use Rattle.sml_unify.specs.Steps.{IsLonger, IsFreshFrom, AreFreshFrom}
 use Rattle.sml_unify.proofs.Extends.{more_cases}
 use Rattle.sml_unify.proofs.Meant.{bound_within, bound_cases, rounds_zero, rounds_free, rounds_bound, meant_free}
 
@@ -21,12 +21,12 @@ slice_within [] i x e = cc
 slice_within (y ∷ xs) zero x e = omega arith
 slice_within (y ∷ xs) (suc i) x e = let w = slice_within xs i x e in omega arith
 
-pub fresh_none : (forms : List TyForm) (bound : List (Option Ty)) → AreFresh forms bound forms
-fresh_none forms bound i f w e = let x = slice_within forms i f e in absurd (omega arith)
+pub fresh_none : (next : ℕ) (forms : List TyForm) → AreFreshFrom next forms forms
+fresh_none next forms i f w e = let x = slice_within forms i f e in absurd (omega arith)
 
-pub fresh_one : (forms : List TyForm) (bound : List (Option Ty)) (z : TyVar) → z.num ≡ next_number forms bound → z.eq ≡ true → AreFresh forms bound (forms ++ Var z ∷ [])
-fresh_one forms bound z n m i f w e =
-    more_cases forms (Var z) i f (IsFresh forms bound f) e (λ o. let x = slice_within forms i f o in absurd (omega arith)) (λ l q. record { var = z; is = sym q; marked = m; beyond = omega arith })
+pub fresh_one : (next : ℕ) (forms : List TyForm) (z : TyVar) → z.num ≡ next → z.eq ≡ true → AreFreshFrom next forms (forms ++ Var z ∷ [])
+fresh_one next forms z n m i f w e =
+    more_cases forms (Var z) i f (IsFreshFrom next f) e (λ o. let x = slice_within forms i f o in absurd (omega arith)) (λ l q. record { var = z; is = sym q; marked = m; beyond = omega arith })
 
 -- a form of the longer list is an old one or a new one
 form_cases : (forms after : List TyForm) (i : ℕ) (f : TyForm) (P : Type 0) → IsLonger forms after → slice_get after i ≡ Some f → (slice_get forms i ≡ Some f → P) → (length forms ≤ i → P) → P
@@ -43,14 +43,14 @@ form_cases forms after i f P l e a b = go (ltb i (length forms)) refl
         a (x ∙ ap Some same)
     go false q = b (grind (arith, nat_tests))
 
-pub fresh_more : (forms forms2 forms3 : List TyForm) (bound bound2 : List (Option Ty)) → AreFresh forms bound forms2 → next_number forms bound ≤ next_number forms2 bound2 → IsLonger forms2 forms3 → AreFresh forms2 bound2 forms3 → AreFresh forms bound forms3
-fresh_more forms forms2 forms3 bound bound2 a n l b i f w e =
+pub fresh_more : (forms forms2 forms3 : List TyForm) (next next2 : ℕ) → AreFreshFrom next forms forms2 → next ≤ next2 → IsLonger forms2 forms3 → AreFreshFrom next2 forms2 forms3 → AreFreshFrom next forms forms3
+fresh_more forms forms2 forms3 next next2 a n l b i f w e =
     form_cases
     forms2
     forms3
     i
     f
-    (IsFresh forms bound f)
+    (IsFreshFrom next f)
     l
     e
     (λ o. a i f w o)
@@ -92,8 +92,8 @@ module _ (forms after : List TyForm) (bound : List (Option Ty)) (l : IsLonger fo
   unfolding meant
   meant_longer v = rounds_longer (length bound) v
 
-  pub marks_longer : (names : List TypeName) → AreFresh forms bound after → Respects names forms (meant forms bound) → Respects names after (meant after bound)
-  marks_longer names a r i v e m =
+  pub marks_longer : (names : List TypeName) (next : ℕ) → length bound ≤ next → AreFreshFrom next forms after → Respects names forms (meant forms bound) → Respects names after (meant after bound)
+  marks_longer names next short a r i v e m =
       form_cases
       forms
       after
@@ -110,8 +110,8 @@ module _ (forms after : List TyForm) (bound : List (Option Ty)) (l : IsLonger fo
       let free : bound_at bound v.num ≡ None = bound_cases bound v.num (bound_at bound v.num ≡ None) (λ q. q) (λ t q. let z = bound_within bound v.num t q in let y = x.beyond in absurd (omega arith)) in
       ap (admits names) (meant_free after bound v free) ∙ m)
 
-pub applied_longer : (forms after : List TyForm) (bound : List (Option Ty)) (names : List TypeName) → IsLonger forms after → AreFresh forms bound after → AreApplied names forms → AreApplied names after
-applied_longer forms after bound names l a h i f e =
+pub applied_longer : (forms after : List TyForm) (next : ℕ) (names : List TypeName) → IsLonger forms after → AreFreshFrom next forms after → AreApplied names forms → AreApplied names after
+applied_longer forms after next names l a h i f e =
     form_cases forms after i f (IsApplied names f) l e (λ o. h i f o) (λ w. let x = a i f w e in subst (λ (g : TyForm). IsApplied names g) (sym x.is) tt)
 
 pub bindings_none : (forms : List TyForm) → AreBindings forms []

@@ -8,7 +8,7 @@ use Rattle.sml_types.specs.declared.types.Ty.{Ty}
 use Rattle.sml_types.specs.declared.types.TyVar.{TyVar}
 use Rattle.sml_types.specs.declared.types.TyForm.{TyForm}
 use Rattle.sml_types.specs.declared.types.TyForm.TheVariants.{Var, Fields, Arrow, Named}
-use Rattle.sml_types.specs.Tree.{Head, Tree, Variable, App, NoParts, Part, inst, occurs, size}
+use Rattle.sml_types.specs.Tree.{Head, Tree, Variable, App, NoParts, Part, inst, occurs, size, AllVars}
 use Rattle.sml_types.specs.Forms.{tree, form_tree, listed, parts_of, head_of, IsNumbered}
 use Rattle.sml_types.proofs.TreeFacts.{inst_inst, either}
 use Rattle.sml_types.proofs.FormFacts.{tree_form}
@@ -17,13 +17,6 @@ use Rattle.sml_unify.specs.Simplified.{IsBinding}
 use Rattle.sml_unify.specs.declared.pair.Pair.{Pair}
 use Rattle.sml_unify.proofs.Meant.{rounds_zero, rounds_free, rounds_bound, bound_cases}
 use Rattle.sml_unify.proofs.Walks.{at_var, at_app}
-
--- all variables of a type are such
-abbrev pub AllVars : (TyVar → Type 0) → Tree → Type 0
-AllVars P (Variable v) = P v
-AllVars P (App h ts) = AllVars P ts
-AllVars P NoParts = Unit {0}
-AllVars P (Part t ts) = AllVars P t × AllVars P ts
 
 pub vars_mono : (P Q : TyVar → Type 0) (t : Tree) → ((v : TyVar) → P v → Q v) → AllVars P t → AllVars Q t
 vars_mono P Q (Variable v) f h = f v h

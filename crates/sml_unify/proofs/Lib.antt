@@ -22,3 +22,8 @@ pub mod LinkFacts
 pub mod Runs
 pub mod RunSteps
 pub mod Fresh
+pub mod Counters
+pub mod VariableWalk
+pub mod CopyFacts
+pub mod OrderWalk
+pub mod NameWalk

@@ -8,7 +8,7 @@ use Rattle.sml_types.specs.declared.types.TyVar.{TyVar}
 use Rattle.sml_types.specs.declared.types.TyForm.{TyForm}
 use Rattle.sml_types.specs.declared.types.TyForm.TheVariants.{Var, Fields, Arrow, Named}
 use Rattle.sml_types.specs.declared.tables.TypeName.{TypeName}
-use Rattle.sml_types.specs.Tree.{Tree, Variable, App, NoParts, Part, inst, occurs}
+use Rattle.sml_types.specs.Tree.{Tree, Variable, App, NoParts, Part, inst, occurs, AllVars}
 use Rattle.sml_types.specs.Forms.{tree, listed, parts_of, head_of}
 use Rattle.sml_unify.specs.declared.pair.Pair.{Pair}
 use Rattle.sml_unify.specs.declared.error.UnifyError.{UnifyError}
@@ -20,7 +20,6 @@ use Rattle.sml_unify.proofs.FailsFacts.{app_no_var}
 use Rattle.sml_unify.proofs.Heads.{free_here}
 use Rattle.sml_unify.proofs.Numbers.{under_agrees}
 use Rattle.sml_unify.proofs.Walks.{at_var, at_app}
-use Rattle.sml_unify.proofs.Known.{AllVars}
 
 pub clear_vars : (f : Substitution) (x : ℕ) (t : Tree) → AllVars (λ w. occurs x (f w) ≡ false) t → occurs x (inst f t) ≡ false
 clear_vars f x (Variable w) h = h

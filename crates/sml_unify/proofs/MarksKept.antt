@@ -7,13 +7,13 @@ use Rattle.sml_types.specs.declared.types.TyVar.{TyVar}
 use Rattle.sml_types.specs.declared.types.TyForm.{TyForm}
 use Rattle.sml_types.specs.declared.types.TyForm.TheVariants.{Var}
 use Rattle.sml_types.specs.declared.tables.TypeName.{TypeName}
-use Rattle.sml_types.specs.Tree.{Tree, Variable, App, NoParts, Part, inst, occurs, admits, head_equality}
+use Rattle.sml_types.specs.Tree.{Tree, Variable, App, NoParts, Part, inst, occurs, admits, head_equality, AllVars}
 use Rattle.sml_types.specs.Forms.{tree}
 use Rattle.sml_types.proofs.TreeFacts.{and_both, by_mono, or_left, or_right, or_none}
 use Rattle.sml_unify.specs.Solved.{bound_at, Substitution, Solves, Respects, IsSolved, IsBoundTo, rounds, meant, under}
 use Rattle.sml_unify.proofs.Meant.{below, below_less, below_all, bound_within, bound_cases, rounds_zero, rounds_free, rounds_bound, meant_solves, meant_free}
 use Rattle.sml_unify.proofs.Bindings.{bound_before}
-use Rattle.sml_unify.proofs.Known.{AllVars, IsKnown, vars_inst, meant_known, meant_through, under_through}
+use Rattle.sml_unify.proofs.Known.{IsKnown, vars_inst, meant_known, meant_through, under_through}
 
 vars_of : (P : TyVar → Type 0) (t : Tree) → ((v : TyVar) → occurs v.num t ≡ true → P v) → AllVars P t
 vars_of P (Variable v) h = h v (eq-eqb v.num v.num refl)

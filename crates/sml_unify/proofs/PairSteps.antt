@@ -1,5 +1,5 @@
 -- The answers of one step.
-use Rattle.std.proofs.Common.{◌≡◌, ◌≤◌, true, false, List, [], ◌∷◌, ◌++◌, length, Option, refl, sym, ap, ◌∙◌, subst}
+use Rattle.std.proofs.Common.{◌≡◌, ℕ, ◌≤◌, true, false, List, [], ◌∷◌, ◌++◌, length, Option, refl, sym, ap, ◌∙◌, subst}
 use Rattle.std.specs.Prelude.{Ok, Err}
 use Rattle.sml_types.specs.declared.types.Ty.{Ty}
 use Rattle.sml_types.specs.declared.types.TyVar.{TyVar}
@@ -16,6 +16,7 @@ use Rattle.sml_unify.specs.Steps.{IsRefuted}
 use Rattle.sml_unify.specs.Outcomes.{IsStep}
 use Rattle.sml_unify.proofs.Heads.{tree_var}
 use Rattle.sml_unify.proofs.Known.{no_cycle}
+use Rattle.sml_unify.proofs.Counters.{extension_below}
 use Rattle.sml_unify.proofs.Extends.{bind_extends, bind_settles, bind_falls, mark_extends, mark_falls, mark_left, mark_right}
 use Rattle.sml_unify.specs.Named as named
 use Rattle.sml_unify.specs.Named.{Fails}
@@ -38,27 +39,27 @@ module _ (names : List TypeName) (forms : List TyForm) (bound : List (Option Ty)
       (cycle o, λ rest. named.cycle k.var (left_var forms bound s p k) (ap (λ (u : TyVar). occurs u.num (under forms (meant forms bound) p.right.0)) one ∙ o) (right_no_var forms bound s p k))
 
   -- an error of the search for marks
-  pub marking_error : (e : UnifyError) → v.eq ≡ true → occurs v.num (under forms (meant forms bound) p.right.0) ≡ false → IsMarking names forms bound p.right.0 (Err e) → IsStep names forms bound p forms bound (Err e)
-  marking_error Clash m o h = h
-  marking_error Cycle m o h = absurd h
-  marking_error NoEquality m o h =
+  pub marking_error : (next : ℕ) (e : UnifyError) → v.eq ≡ true → occurs v.num (under forms (meant forms bound) p.right.0) ≡ false → IsMarking names forms bound p.right.0 (Err e) → IsStep names next forms bound p forms bound (Err e)
+  marking_error next Clash m o h = h
+  marking_error next Cycle m o h = absurd h
+  marking_error next NoEquality m o h =
       (refused m h, λ rest. named.no_equality k.var (left_var forms bound s p k) (ap (λ (u : TyVar). occurs u.num (under forms (meant forms bound) p.right.0)) one ∙ o) (refused m h))
-  marking_error NoMemory m o h = tt
+  marking_error next NoMemory m o h = tt
 
-  pub step_bound : occurs v.num (under forms (meant forms bound) p.right.0) ≡ false → (after : List (Option Ty)) → IsBoundTo bound v.num p.right after → length bound ≤ length after → (v.eq ≡ true → admits names (under forms (meant forms bound) p.right.0) ≡ true) → IsStep names forms bound p forms after (Ok true)
-  step_bound o after b more marked =
+  pub step_bound : (next : ℕ) → occurs v.num (under forms (meant forms bound) p.right.0) ≡ false → (after : List (Option Ty)) → IsBoundTo bound v.num p.right after → length bound ≤ length after → (v.eq ≡ true → admits names (under forms (meant forms bound) p.right.0) ≡ true) → IsStep names next forms bound p forms after (Ok true)
+  step_bound next o after b more marked =
       let clear = ap (λ (u : TyVar). occurs u.num (under forms (meant forms bound) p.right.0)) one ∙ o in
       let c : IsBoundTo bound k.var.num p.right after = subst (λ (u : TyVar). IsBoundTo bound u.num p.right after) (sym one) b in
       let k2 : k.var.eq ≡ true → admits names (under forms (meant forms bound) p.right.0) ≡ true = λ e. marked (sym (ap (λ (u : TyVar). u.eq) one) ∙ e) in
-      (bind_extends names forms bound s p k clear after c more k2, bind_settles names forms bound s p k clear after c more k2, bind_falls names forms bound s p k clear after c more k2)
+      (bind_extends names forms bound s p k clear after c more k2 next, bind_settles names forms bound s p k clear after c more k2, bind_falls names forms bound s p k clear after c more k2)
 
-  pub step_marked : v.eq ≡ true → occurs v.num (under forms (meant forms bound) p.right.0) ≡ false → (w : TyVar) → IsToMark names forms bound p.right.0 w → (t : Ty) → t.0 ≡ length forms → (after : List (Option Ty)) → IsBoundTo bound w.num t after → length bound ≤ length after → IsStep names forms bound p (forms ++ Var (record { num = next_number forms bound; eq = true }) ∷ []) after (Ok false)
-  step_marked m o w d t last after b more =
+  pub step_marked : (next : ℕ) → next_number forms bound ≤ next → v.eq ≡ true → occurs v.num (under forms (meant forms bound) p.right.0) ≡ false → (w : TyVar) → IsToMark names forms bound p.right.0 w → (t : Ty) → t.0 ≡ length forms → (after : List (Option Ty)) → IsBoundTo bound w.num t after → length bound ≤ length after → IsStep names next forms bound p (forms ++ Var (record { num = next; eq = true }) ∷ []) after (Ok false)
+  step_marked next n m o w d t last after b more =
       let marked = ap (λ (u : TyVar). u.eq) one ∙ m in
       let clear = ap (λ (u : TyVar). occurs u.num (under forms (meant forms bound) p.right.0)) one ∙ o in
-      let z : TyVar = record { num = next_number forms bound; eq = true } in
-      let x = mark_extends forms bound s z refl names refl p k marked w d t last after b more in (
+      let z : TyVar = record { num = next; eq = true } in
+      let x = mark_extends forms bound s z n names refl p k marked w d t last after b more in (
         x,
-        mark_falls forms bound s z refl names refl p k marked w d t last after b more,
-        mark_fails forms bound s p k names (forms ++ Var z ∷ []) after x clear (mark_left forms bound s z refl names refl p k marked w d t last after b more) (mark_right forms bound s z refl names refl p k marked w d t last after b more clear),
+        mark_falls forms bound s z n names refl p k marked w d t last after b more,
+        mark_fails forms bound s p k names (forms ++ Var z ∷ []) after (extension_below names next (next_number forms bound) forms bound (p ∷ []) (forms ++ Var z ∷ []) after n x) clear (mark_left forms bound s z n names refl p k marked w d t last after b more) (mark_right forms bound s z n names refl p k marked w d t last after b more clear),
       )

@@ -1,7 +1,7 @@
 //! Bindings, new variables, and the log of what was bound.
 
 ghost use Rattle.std.specs.Prelude.{◌≡◌, ℕ, ◌+◌, ◌<◌, ◌++◌, true, None, [], ◌∷◌, length, IfOk, OnOk, OnErr, ◌≤◌, slice_get, List, Option};
-ghost use Rattle.sml_unify.specs.Steps.{IsLogged, IsUnbound};
+ghost use Rattle.sml_unify.specs.Steps.{IsLogged, IsUnbound, AreBelow};
 ghost use Rattle.sml_types.specs.declared.types.TyForm.TheVariants.{Var};
 ghost use Rattle.sml_types.specs.declared.types.Ty.{Ty};
 ghost use Rattle.sml_unify.specs.Solved.{next_number, IsBoundTo, bound_at};
@@ -9,7 +9,8 @@ ghost use Rattle.sml_unify.specs.Solved.{next_number, IsBoundTo, bound_at};
 use sml_types::{Ty, TyForm, TyVar, Types};
 use smlc_base::{NoMemory, Row};
 
-fn number(forms: &[TyForm], bound: &[Option<Ty>]) -> usize
+/// The first number above those of all variables.
+pub(crate) fn number(forms: &[TyForm], bound: &[Option<Ty>]) -> usize
     ensures { result ≡ next_number forms.now bound.now }
 {
     let mut next = bound.len();
@@ -23,25 +24,28 @@ fn number(forms: &[TyForm], bound: &[Option<Ty>]) -> usize
     next
 }
 
-/// A new marked variable.
-pub(crate) fn fresh(types: &mut Types, bound: &[Option<Ty>]) -> Result<Ty, NoMemory>
-    ensures ok { IfOk result (λ t. (t.0 ≡ length types.old) × (types.new ≡ types.old ++ Var (record { num = next_number types.old bound.now; eq = true }) ∷ [])) }
+/// A new marked variable, numbered from the counter.
+pub(crate) fn fresh(types: &mut Types, next: &mut u32) -> Result<Ty, NoMemory>
+    requires below { AreBelow types.old next.old }
+    ensures ok { IfOk result (λ t. (t.0 ≡ length types.old) × (types.new ≡ types.old ++ Var (record { num = next.old; eq = true }) ∷ [])) }
     ensures err { OnErr result (types.new ≡ types.old) }
+    ensures below { AreBelow types.new next.new }
+    ensures raised { next.old ≤ next.new }
 {
-    let next = number(types.forms(), bound);
-    if next > u32::MAX as usize {
+    let num = *next;
+    if num == u32::MAX {
         return Err(NoMemory);
     }
-    types.var(TyVar {
-        num: next as u32,
-        eq: true,
-    })
+    let ty = types.var(TyVar { num, eq: true })?;
+    *next = num + 1;
+    Ok(ty)
 }
 
 /// Binds a number to a type.
 pub(crate) fn bind(bound: &mut Row<Option<Ty>>, num: u32, ty: Ty) -> Result<(), NoMemory>
     ensures ok { OnOk result (IsBoundTo bound.old num ty bound.new) }
     ensures longer { length bound.old ≤ length bound.new }
+    ensures short { (count : ℕ) → length bound.old ≤ count → num < count → length bound.new ≤ count }
     ensures others { (i : ℕ) → i < length bound.old → (i ≡ num → ⊥) → slice_get bound.new i ≡ slice_get bound.old i }
     ensures same { OnErr result ((i : ℕ) → i < length bound.old → slice_get bound.new i ≡ slice_get bound.old i) }
 {
@@ -62,6 +66,7 @@ pub(crate) fn bind_logged(
     requires { bound_at bound.old num ≡ None }
     ensures ok { OnOk result (IsBoundTo bound.old num ty bound.new) }
     ensures longer { length bound.old ≤ length bound.new }
+    ensures short { (count : ℕ) → length bound.old ≤ count → num < count → length bound.new ≤ count }
     ensures logged { (old : List (Option Ty)) → IsLogged old bound.old log.old.items → IsLogged old bound.new log.new.items }
 {
     log.push(num)?;

@@ -4,21 +4,27 @@
 #![tactic(auto)]
 
 mod bind;
+mod copies;
 pub mod error;
 mod head;
 mod link;
 mod mark;
 mod occurs;
+pub mod order;
 pub mod pair;
 mod parts;
+pub mod resolve;
 pub mod simplify;
 mod solve;
 pub mod subst;
 mod task;
+pub mod type_names;
+pub mod variables;
 mod visit;
 
 pub use error::UnifyError;
-pub use subst::{Subst, unify};
+pub use resolve::{Rename, Resolved};
+pub use subst::{Subst, unify, unify_next};
 
 #[cfg(test)]
 mod tests;

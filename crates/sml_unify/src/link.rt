@@ -8,7 +8,8 @@ use indexmap::IndexMap;
 use sml_types::Ty;
 use smlc_base::NoMemory;
 
-fn linked(links: &IndexMap<u32, Ty>, ty: Ty) -> Option<Ty>
+/// What stands for a form.
+pub(crate) fn linked(links: &IndexMap<u32, Ty>, ty: Ty) -> Option<Ty>
     ensures { result ≡ get nat_eq links.now ty.0 }
 {
     match links.get(&ty.0) {

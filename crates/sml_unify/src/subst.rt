@@ -1,13 +1,13 @@
 //! Unification.
 
-ghost use Rattle.std.specs.Prelude.{◌≡◌, ℕ, ◌<◌, [], ◌∷◌, length, OnErr, IfOk, List, Option};
+ghost use Rattle.std.specs.Prelude.{◌≡◌, ℕ, ◌<◌, ◌≤◌, [], ◌∷◌, length, OnErr, IfOk, List, Option};
 ghost use Rattle.sml_unify.specs.Solved.{AreBindings, Solves, Respects, meant};
 ghost use Rattle.sml_types.specs.Forms.{AreApplied};
 ghost use Rattle.sml_types.specs.declared.types.TyForm.{TyForm};
-ghost use Rattle.sml_unify.specs.Steps.{IsLonger, AreFresh};
-ghost use Rattle.sml_unify.specs.Outcomes.{IsUnified};
+ghost use Rattle.sml_unify.specs.Steps.{IsLonger, AreFresh, AreFreshFrom, AreBelow};
+ghost use Rattle.sml_unify.specs.Outcomes.{IsUnified, IsUnifiedFrom};
 
-use crate::bind::undo;
+use crate::bind::{number, undo};
 use crate::error::UnifyError;
 use crate::pair::Pair;
 use crate::solve::solve;
@@ -65,6 +65,40 @@ pub fn unify(
     ensures marks { Respects tables.now.names types.old (meant types.old subst.old.bound) → Respects tables.now.names types.new (meant types.new subst.new.bound) }
     ensures applied { AreApplied tables.now.names types.old → AreApplied tables.now.names types.new }
 {
+    let count = number(types.forms(), subst.bound.items());
+    if count > u32::MAX as usize {
+        return Err(UnifyError::NoMemory);
+    }
+    let mut next = count as u32;
+    unify_next(subst, types, &mut next, tables, left, right)
+}
+
+/// As `unify`, with the numbers of new variables from a counter: `next` is above the numbers of all variables, and where it is at its end there is want of memory. An error leaves the substitution as before, and new variables may stay.
+pub fn unify_next(
+    subst: &mut Subst,
+    types: &mut Types,
+    next: &mut u32,
+    tables: &Tables,
+    left: Ty,
+    right: Ty,
+) -> Result<(), UnifyError>
+    requires bindings { AreBindings types.old subst.old.bound }
+    requires left { left.0 < length types.old }
+    requires right { right.0 < length types.old }
+    requires below { AreBelow types.old next.old }
+    requires short { length subst.old.bound ≤ next.old }
+    ensures unified { IsUnifiedFrom tables.now.names next.old types.old subst.old.bound (record { left = left; right = right } ∷ []) types.new subst.new.bound result }
+    ensures unchanged { OnErr result (subst.new.bound ≡ subst.old.bound) }
+    ensures longer { IsLonger types.old types.new }
+    ensures fresh { AreFreshFrom next.old types.old types.new }
+    ensures bindings { AreBindings types.new subst.new.bound }
+    ensures solution { Solves types.new subst.new.bound (meant types.new subst.new.bound) }
+    ensures marks { Respects tables.now.names types.old (meant types.old subst.old.bound) → Respects tables.now.names types.new (meant types.new subst.new.bound) }
+    ensures applied { AreApplied tables.now.names types.old → AreApplied tables.now.names types.new }
+    ensures below { AreBelow types.new next.new }
+    ensures short { length subst.new.bound ≤ next.new }
+    ensures raised { next.old ≤ next.new }
+{
     // Opens the invariant of the types.
     let _ = &types.forms;
     let alloc = subst.bound.allocator();
@@ -75,6 +109,7 @@ pub fn unify(
         alloc,
         &mut subst.bound,
         types,
+        next,
         tables.names.items(),
         &mut work,
         &mut log,

@@ -1,12 +1,14 @@
-use Rattle.std.proofs.Common.{◌≡◌, rules, arith, sym, ap, ◌∙◌, subst}
+use Rattle.std.proofs.Common.{◌≡◌, refl, rules, arith, sym, ap, ◌∙◌, subst}
 use Rattle.std.proofs.lemmas.Result.{on_ok_weaker}
 use Rattle.sml_expansion.specs.Scopes.{scope_of}
 use Rattle.sml_expansion.specs.Sources.{node_at}
 use Rattle.sml_expansion.specs.declared.scope.Bindings.{Bindings}
 use Rattle.sml_tree.specs.Parts.{parts_of}
 use Rattle.sml_tree.specs.declared.tree_node.TreeNode.TheVariants as node
-use Rattle.expand_types.specs.Effects.{types_shown}
-use Rattle.expand_types.proofs.BindingLemmas.{left_on, left_end, Does}
+use Rattle.sml_expansion.specs.Bindings.{type_bindings}
+use Rattle.expand_types.specs.Effects.{types_shown, types_behind}
+use Rattle.expand_types.proofs.BindingLemmas.{assoc}
+use Rattle.expand_types.proofs.SpineLemmas.{left_on, left_end, Does}
 use Rattle.expand_types.proofs.type_declarations.+push_type_bindings.Goals as goal
 
 pub loop-first-preserved : goal.loop-first-preserved
@@ -17,8 +19,8 @@ loop-first-preserved t c =
     let step = c.in_ok-push_type_bindings.ensures in (
       omega (arith, below.1, c.loop-first.invariant.0),
       step.kept ∙ c.loop-first.invariant.1,
-      left_on src (scope_of src.names c.args.bindings.now) c.args.at c.loop-first.rest c.two-first.result.0 c.two-first.result.1 _ _ _ _ _ _ c.loop-first.invariant.2 is c.two-first.ensures.parts
-          (subst (λ (b : Bindings). Does src (scope_of src.names b) c.two-first.result.0 c.loop-first.made (types_shown c.loop-first.done) c.push_type_bindings.new.made (types_shown c.push_type_bindings.new.done)) c.loop-first.invariant.1 step.done),
+      left_on src (λ k. type_bindings (scope_of src.names c.args.bindings.now)) types_behind types_behind assoc node.MoreTypBinds refl (λ k p a b m. refl) 0 c.args.at 0 c.loop-first.rest c.two-first.result.0 c.two-first.result.1 _ _ _ _ _ _ c.loop-first.invariant.2 is c.two-first.ensures.parts
+          (subst (λ (b : Bindings). Does src (λ k. type_bindings (scope_of src.names b)) types_behind 0 c.two-first.result.0 c.loop-first.made (types_shown c.loop-first.done) c.push_type_bindings.new.made (types_shown c.push_type_bindings.new.done)) c.loop-first.invariant.1 step.done),
     )
 
 pub returns : goal.returns
@@ -27,6 +29,6 @@ returns t c =
     let left = c.push_type_binding in
     record {
       kept = on_ok_weaker left.result (λ h. h ∙ c.loop-first.invariant.1) left.ensures.kept;
-      done = on_ok_weaker left.result (λ h. left_end src (scope_of src.names c.args.bindings.now) c.args.at c.loop-first.rest _ _ _ _ _ _ c.loop-first.invariant.2
-          (subst (λ (b : Bindings). Does src (scope_of src.names b) c.loop-first.rest c.loop-first.made (types_shown c.loop-first.done) left.new.made (types_shown left.new.done)) c.loop-first.invariant.1 h)) left.ensures.done;
+      done = on_ok_weaker left.result (λ h. left_end src (λ k. type_bindings (scope_of src.names c.args.bindings.now)) types_behind 0 c.args.at 0 c.loop-first.rest _ _ _ _ _ _ c.loop-first.invariant.2
+          (subst (λ (b : Bindings). Does src (λ k. type_bindings (scope_of src.names b)) types_behind 0 c.loop-first.rest c.loop-first.made (types_shown c.loop-first.done) left.new.made (types_shown left.new.done)) c.loop-first.invariant.1 h)) left.ensures.done;
     }

@@ -1,8 +1,13 @@
 use Rattle.std.proofs.Common.{◌≡◌, ◌++◌, [], ◌∷◌, drop, map, sym, ap, ◌∙◌, append-nil, arith}
 use Rattle.std.proofs.Math.ListN.{drop_of_length-le}
 use Rattle.sml_tree.specs.Points.{spots}
+use Rattle.sml_def.proofs.Few.{spot_fits}
 use Rattle.sml_def.specs.Sites.{site_of}
 use Rattle.sml_def.proofs.sites.points.Goals as goal
+
+pub site-requires : goal.site-requires
+site-requires c =
+    spot_fits c.args.bare.now c.requires c.deref-spot-items.result.now c.loop-spot.spot-index _ (c.deref-spot-items.ensures.value ∙ c.in_ok-points_of.ensures ∙ ap spots c.items.ensures) c.loop-spot-test.true
 
 pub returns : goal.returns
 returns c =

@@ -8,6 +8,7 @@ invariant-loop-bound l = record {
   longer : length l.fn.bound ≤ length l.bound;
   same : (y : ℕ) → bound_at l.bound y ≡ bound_at l.fn.bound y;
   prefix : (i : ℕ) → i < length l.fn.bound → slice_get l.bound i ≡ slice_get l.fn.bound i;
+  short : (count : ℕ) → length l.fn.bound ≤ count → l.num < count → length l.bound ≤ count;
 }
 
 abbrev pub decreases-loop-bound : goal.decreases-loop-bound

@@ -1,0 +1,11 @@
+pub mod ListFacts
+pub mod Renames
+pub mod FoundFacts
+pub mod NumberFacts
+pub mod KnownFacts
+pub mod OpenFacts
+pub mod Free
+pub mod KeptFacts
+pub mod AroundFacts
+pub mod NodeFacts
+pub mod Mentions

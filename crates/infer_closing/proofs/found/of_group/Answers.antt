@@ -1,0 +1,22 @@
+use Rattle.std.proofs.Common.{◌≡◌, suc, ℕ, ◌+◌, ◌∷◌, [], ◌++◌, List, Some, take, ap, ◌∙◌, subst, arith}
+use Rattle.std.specs.Prelude.{get_or}
+use Rattle.std.proofs.Math.Seq.{take-suc}
+use Rattle.sml_tree.specs.declared.bare.RecBinding.{RecBinding}
+use Rattle.infer_closing.specs.Groups.{of_group, together}
+use Rattle.infer_closing.specs.Closing.{meaning}
+use Rattle.infer_closing.specs.Found.{IsFoundAt}
+use Rattle.infer_closing.proofs.FoundFacts.{group_end, found_end}
+use Rattle.infer_closing.proofs.found.of_group.Goals as goal
+
+pub bindings-preserved : goal.bindings-preserved
+bindings-preserved c =
+    let none : RecBinding = record { name = record { 0 = 0 }; right = 0 } in
+    let bs = c.args.bindings.now in
+    let i = c.bindings.binding-index in
+    let b : RecBinding = get_or bs i none in
+    let u = c.args.unknowns.now in
+    let p = c.args.bare.now in
+    let next : i + 1 ≡ suc i = omega arith in
+    let taken : take (i + 1) bs ≡ take i bs ++ b ∷ [] = ap (λ k. take k bs) next ∙ take-suc bs i none c.bindings-test.true in
+    let names = c.in_ok-names.ensures in
+    found_end p (meaning u) u.types (of_group (take i bs)) (of_group (take (i + 1) bs)) c.bindings.groups.items c.push.new.self.items c.in_ok-group.field-0 (Some b.right) (b.name.0 ∷ []) c.bindings.invariant (ap of_group taken ∙ group_end (take i bs) b) c.in_ok-push.ensures.items (c.in_ok-group.ensures.of ∙ ap (λ (xs : List ℕ). together (Some b.right) xs) names) (subst (λ (xs : List ℕ). IsFoundAt p (meaning u) u.types (Some b.right) xs c.in_ok-group.field-0.vars) names c.in_ok-group.ensures.found)

@@ -1,0 +1,12 @@
+pub mod Added
+pub mod Stepped
+pub mod Posing
+pub mod Instanced
+pub mod Making
+pub mod Schemes
+pub mod Ruled
+pub mod Posed
+pub mod Constructed
+pub mod Rows
+pub mod Meant
+pub mod Phrases

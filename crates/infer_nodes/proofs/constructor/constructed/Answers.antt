@@ -1,0 +1,7 @@
+use Rattle.infer_nodes.specs.Asked.{ConAt}
+use Rattle.infer_nodes.proofs.Constructed.{at_var}
+use Rattle.infer_nodes.proofs.constructor.constructed.Goals as goal
+
+pub returns : goal.returns
+returns c v s =
+    at_var c.args.declared.now.tables.names (λ f u. ConAt c.args.bare.now c.args.types.now c.args.declared.now.tables.names f c.args.con u) c.args.next.now c.args.types.now c.con_type.new.next c.con_type.new.types c.con_type.new.pairs c.push.new.self c.in_ok-made.made c.args.at v c.requires.below s c.in_ok-made.ensures c.in_ok-push.ensures.ok

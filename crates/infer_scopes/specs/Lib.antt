@@ -1,0 +1,4 @@
+pub mod Chains
+pub mod Scopes
+pub mod Prefix
+pub mod Bound

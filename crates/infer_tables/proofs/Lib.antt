@@ -1,0 +1,13 @@
+mod Lists
+mod CheckFacts
+mod StartFacts
+mod Meanings
+mod MeaningFacts
+mod StepFacts
+mod BindingFacts
+mod Greatest
+mod GroupFacts
+mod GroupSteps
+mod RowFacts
+mod NodeFacts
+mod DeclareFacts

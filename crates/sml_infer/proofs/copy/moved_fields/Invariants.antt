@@ -1,6 +1,0 @@
-use Rattle.std.proofs.Common.{◌≡◌, ◌++◌, drop}
-use Rattle.sml_infer.specs.Copies.{moved_fields}
-use Rattle.sml_infer.proofs.copy.moved_fields.Given as goal
-
-abbrev pub invariant-fields : goal.invariant-fields
-invariant-fields l = l.made ++ moved_fields l.from l.copies (drop l.field-index l.fields) ≡ moved_fields l.from l.copies l.fields

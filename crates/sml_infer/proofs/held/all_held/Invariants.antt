@@ -1,6 +1,0 @@
-use Rattle.std.proofs.Common.{◌≡◌, drop}
-use Rattle.sml_infer.specs.Held.{all_held}
-use Rattle.sml_infer.proofs.held.all_held.Given as goal
-
-abbrev pub invariant-each : goal.invariant-each
-invariant-each l = all_held l.first l.table (drop l.ty-index l.tys) ≡ all_held l.first l.table l.tys

@@ -1,9 +1,0 @@
-use Rattle.std.specs.Prelude.{◌≤◌, length}
-use Rattle.sml_infer.specs.Plain.{IsPlainFrom}
-use Rattle.sml_infer.proofs.plain.non_expansive.Given as goal
-
-abbrev pub invariant-nodes : goal.invariant-nodes
-invariant-nodes l = (l.i ≤ length l.nodes) × IsPlainFrom l.nodes l.i l.table.items
-
-abbrev pub decreases-nodes : goal.decreases-nodes
-decreases-nodes l = l.i

@@ -1,6 +1,0 @@
-use Rattle.std.proofs.Common.{◌≡◌, drop}
-use Rattle.sml_infer.specs.Segments.{least_of}
-use Rattle.sml_infer.proofs.segment.least.Given as goal
-
-abbrev pub invariant-parts : goal.invariant-parts
-invariant-parts l = least_of l.least (drop l.part-index l.parts) ≡ least_of l.low l.parts

@@ -1,7 +1,0 @@
-use Rattle.std.proofs.Common.{◌≡◌, drop}
-use Rattle.sml_infer.specs.Written.{all_taken}
-use Rattle.sml_infer.proofs.Lists.{prefixed}
-use Rattle.sml_infer.proofs.written.all_taken.Given as goal
-
-abbrev pub invariant-parts : goal.invariant-parts
-invariant-parts l = prefixed l.tys (all_taken l.first l.made (drop l.part-index l.parts)) ≡ all_taken l.first l.made l.parts

@@ -1,6 +1,0 @@
-use Rattle.std.proofs.Common.{◌≡◌, ◌++◌, drop}
-use Rattle.sml_infer.specs.Written.{in_order}
-use Rattle.sml_infer.proofs.written.in_order.Given as goal
-
-abbrev pub invariant-fields : goal.invariant-fields
-invariant-fields l = l.made ++ in_order (drop l.at l.fields) (drop l.at l.tys) ≡ in_order l.fields l.tys
