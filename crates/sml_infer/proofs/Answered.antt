@@ -36,8 +36,8 @@ ready_below p count b renames settled h e q =
 pub named_of : (p : Bare) (old forms : List TyForm) (bound : List (Option Ty)) (renames to : List Rename) (settled also : List (Option Settled)) (schemes all : List NameScheme) → renames ≡ to → settled ≡ also → all ≡ schemes → AreNamed p old forms bound renames settled schemes → AreNamed p old forms bound to also all
 named_of p old forms bound renames to settled also schemes all e q r h =
     subst (λ (xs : List NameScheme). AreNamed p old forms bound to also xs) (sym r)
-      (subst (λ (ss : List (Option Settled)). AreNamed p old forms bound to ss schemes) q
-        (subst (λ (rs : List Rename). AreNamed p old forms bound rs settled schemes) e h))
+    (subst (λ (ss : List (Option Settled)). AreNamed p old forms bound to ss schemes) q
+    (subst (λ (rs : List Rename). AreNamed p old forms bound rs settled schemes) e h))
 
 pub in_order : (p : Bare) (old forms : List TyForm) (bound : List (Option Ty)) (renames : List Rename) (settled : List (Option Settled)) (schemes : List NameScheme) → AreNamed p old forms bound renames settled schemes → AreOrdered schemes
 in_order p old forms bound renames settled schemes h i s e = (h i s e).name

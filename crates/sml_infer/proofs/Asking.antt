@@ -46,8 +46,8 @@ module _ (p : Bare) (count : ℕ) (d : Declared) (a : Now) (node r : ℕ) (going
       let q = going.follow t h in
       let stands = q.contexts node entered.context entered.here in
       typings_meet p a.unknowns.types d.tables.names (known (stage a)) q.f t
-        (record { rows = q.tables.rows; fits = q.fits; suit = q.suits; marks = settled_marks a.unknowns.types a.settled going.sound.forms going.sound.there d.tables.names q.f q.solution.marks })
-        count node entered.at h below entered.there placed (subst (λ (c : Context). IsReady (known (stage a)) c entered.at) (sym stands) ready) (written t h)
+      (record { rows = q.tables.rows; fits = q.fits; suit = q.suits; marks = settled_marks a.unknowns.types a.settled going.sound.forms going.sound.there d.tables.names q.f q.solution.marks })
+      count node entered.at h below entered.there placed (subst (λ (c : Context). IsReady (known (stage a)) c entered.at) (sym stands) ready) (written t h)
 
   -- what is refused has no typing
   pub refused : ((abbreviations : ℕ → Poly) → AreAbbreviations a.unknowns.types d.abbreviations abbreviations → IsRefused d.tables.names (rule_at p d a node entered.at abbreviations) a.unknowns) → (t : Typing) → IsTypingBelow p t count → ⊥
@@ -83,25 +83,25 @@ module _ (p : Bare) (count : ℕ) (d : Declared) (a : Now) (node r : ℕ) (going
     at_most : (i : ℕ) → i < suc node → (i < node) ⊎ (i ≡ node)
     at_most i l = split i node l
       where
-      split : (x y : ℕ) → x < suc y → (x < y) ⊎ (x ≡ y)
-      split zero zero l = inr refl
-      split zero (suc y) l = inl (omega arith)
-      split (suc x) zero l = absurd (omega (arith, l))
-      split (suc x) (suc y) l = up (split x y (omega (arith, l)))
-        where
-        up : (x < y) ⊎ (x ≡ y) → (suc x < suc y) ⊎ (suc x ≡ suc y)
-        up (inl h) = inl (omega (arith, h))
-        up (inr h) = inr (ap suc h)
+        split : (x y : ℕ) → x < suc y → (x < y) ⊎ (x ≡ y)
+        split zero zero l = inr refl
+        split zero (suc y) l = inl (omega arith)
+        split (suc x) zero l = absurd (omega (arith, l))
+        split (suc x) (suc y) l = up (split x y (omega (arith, l)))
+          where
+            up : (x < y) ⊎ (x ≡ y) → (suc x < suc y) ⊎ (suc x ≡ suc y)
+            up (inl h) = inl (omega (arith, h))
+            up (inr h) = inr (ap suc h)
 
     done_after : AreDone p d after (suc node)
     done_after i n l e = by (at_most i l)
       where
-      by : (i < node) ⊎ (i ≡ node) → IsDone p d (stage after) i n
-      by (inl h) = done_bound p d a u (rule_at p d a node entered.at some) (rule_at p d a node entered.at some) going.sound one node going.nodes i n h e
-      by (inr h) =
-          let there = entered.there in
-          let same : n ≡ entered.at = cc in
-          subst (λ (m : Node). IsDone p d (stage after) i m) (sym same) (subst (λ (j : ℕ). IsDone p d (stage after) j entered.at) (sym h) this_done)
+        by : (i < node) ⊎ (i ≡ node) → IsDone p d (stage after) i n
+        by (inl h) = done_bound p d a u (rule_at p d a node entered.at some) (rule_at p d a node entered.at some) going.sound one node going.nodes i n h e
+        by (inr h) =
+            let there = entered.there in
+            let same : n ≡ entered.at = cc in
+            subst (λ (m : Node). IsDone p d (stage after) i m) (sym same) (subst (λ (j : ℕ). IsDone p d (stage after) j entered.at) (sym h) this_done)
 
     pub ask_goes : IsGoing p count d after (suc node) node r
     ask_goes =
@@ -143,6 +143,6 @@ asked_refused names P rule before after G (Err NoMemory) step f = tt
 pub placed : (p : Bare) (i : ℕ) (n : Node) → IsNumbered p.nodes → slice_get p.nodes i ≡ Some n → AllByRecursion (λ x. x < length p.names) (node_names n) → IsPlaced p n
 placed p i n numbered e names = record { names = names; parts = below (node_parts n) (numbered i n e) }
   where
-  below : (cs : List ℕ) → AllByRecursion (λ c. (i < c) × (c < length p.nodes)) cs → AllByRecursion (λ c. c < length p.nodes) cs
-  below [] h = tt
-  below (c ∷ cs) h = (h.0.1, below cs h.1)
+    below : (cs : List ℕ) → AllByRecursion (λ c. (i < c) × (c < length p.nodes)) cs → AllByRecursion (λ c. c < length p.nodes) cs
+    below [] h = tt
+    below (c ∷ cs) h = (h.0.1, below cs h.1)

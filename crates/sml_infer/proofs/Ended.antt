@@ -119,12 +119,12 @@ module _ (p : Bare) (count : ℕ) (d : Declared) (w : Now) (general : List (Opti
   finished : (i : ℕ) (n : Node) (c : Context) → i < count → slice_get p.nodes i ≡ Some n → contexts i ≡ Some c → IsFinished p t c i n
   finished i n c l at here = by (either_kind n)
     where
-    by : IsNoTypeDeclaration n ⊎ IsTypeDeclaration n → IsFinished p t c i n
-    by (inl h) = end.checked.finished i n c l at h here
-    by (inr h) =
-        let none : t.binds i ≡ [] = bound_of p.nodes i n end.numbered at ∙ type_binds_none (names_bound p.nodes) i n h in
-        let typed = end.tables.sound t end.longer refl abbreviations i n l at h c (t.types i) in
-        type_finished p t c i n h (subst (λ (bs : List ℕ). IsTypedNode p t c (t.types i) bs n) (sym none) typed)
+      by : IsNoTypeDeclaration n ⊎ IsTypeDeclaration n → IsFinished p t c i n
+      by (inl h) = end.checked.finished i n c l at h here
+      by (inr h) =
+          let none : t.binds i ≡ [] = bound_of p.nodes i n end.numbered at ∙ type_binds_none (names_bound p.nodes) i n h in
+          let typed = end.tables.sound t end.longer refl abbreviations i n l at h c (t.types i) in
+          type_finished p t c i n h (subst (λ (bs : List ℕ). IsTypedNode p t c (t.types i) bs n) (sym none) typed)
 
   inferred_node : (i : ℕ) (n : Node) → i < count → slice_get p.nodes i ≡ Some n → IsInferredNode p forms names d.abbreviations contexts settled (generals general) f i n
   inferred_node i n l at =

@@ -175,17 +175,18 @@ module _ (p : Bare) (count : ℕ) (d : Declared) (a : Now) (settled : List (Opti
   contexts_after : AreBehind p after (suc reached)
   contexts_after e j k c l o at stands = at_most e j k c (below_or e reached l) o at stands
     where
-    below_or : (x y : ℕ) → x < suc y → (x < y) ⊎ (x ≡ y)
-    below_or x zero l = inr (omega (arith, l))
-    below_or zero (suc y) l = inl (omega arith)
-    below_or (suc x) (suc y) l = up (below_or x y (omega (arith, l)))
-      where
-      up : (x < y) ⊎ (x ≡ y) → (suc x < suc y) ⊎ (suc x ≡ suc y)
-      up (inl h) = inl (omega (arith, h))
-      up (inr h) = inr (ap suc h)
-    at_most : (e j k : ℕ) (c : Context) → (e < reached) ⊎ (e ≡ reached) → let_of a e ≡ Some j → slice_get p.nodes j ≡ Some (node.Let k e) → contexts_of s j ≡ Some c → contexts_of s e ≡ Some (behind p.nodes c k)
-    at_most e j k c (inl l) o at stands = behind_kept p d a s done done reached going.nodes going.lets (omega arith) entered.entered.kept going.contexts e j k c l o at stands
-    at_most e j k c (inr h) o at stands = behind_here e j k c h o at stands
+      below_or : (x y : ℕ) → x < suc y → (x < y) ⊎ (x ≡ y)
+      below_or x zero l = inr (omega (arith, l))
+      below_or zero (suc y) l = inl (omega arith)
+      below_or (suc x) (suc y) l = up (below_or x y (omega (arith, l)))
+        where
+          up : (x < y) ⊎ (x ≡ y) → (suc x < suc y) ⊎ (suc x ≡ suc y)
+          up (inl h) = inl (omega (arith, h))
+          up (inr h) = inr (ap suc h)
+
+      at_most : (e j k : ℕ) (c : Context) → (e < reached) ⊎ (e ≡ reached) → let_of a e ≡ Some j → slice_get p.nodes j ≡ Some (node.Let k e) → contexts_of s j ≡ Some c → contexts_of s e ≡ Some (behind p.nodes c k)
+      at_most e j k c (inl l) o at stands = behind_kept p d a s done done reached going.nodes going.lets (omega arith) entered.entered.kept going.contexts e j k c l o at stands
+      at_most e j k c (inr h) o at stands = behind_here e j k c h o at stands
 
   pub close_goes : IsGoing p count d after done done (suc reached)
   close_goes =
@@ -207,18 +208,19 @@ pub reach_free : (p : Bare) (count : ℕ) (d : Declared) (a : Now) (done reached
 reach_free p count d a done reached none h =
     record { sound = h.sound; follow = h.follow; nodes = h.nodes; lets = h.lets; contexts = λ e i k c l o at stands. by e i k c (below_or e reached l) o at stands }
   where
-  below_or : (x y : ℕ) → x < suc y → (x < y) ⊎ (x ≡ y)
-  below_or zero zero l = inr refl
-  below_or zero (suc y) l = inl (omega arith)
-  below_or (suc x) zero l = absurd (omega (arith, l))
-  below_or (suc x) (suc y) l = up (below_or x y (omega (arith, l)))
-    where
-    up : (x < y) ⊎ (x ≡ y) → (suc x < suc y) ⊎ (suc x ≡ suc y)
-    up (inl h) = inl (omega (arith, h))
-    up (inr h) = inr (ap suc h)
-  by : (e i k : ℕ) (c : Context) → (e < reached) ⊎ (e ≡ reached) → let_of a e ≡ Some i → slice_get p.nodes i ≡ Some (node.Let k e) → contexts_of a.scopes i ≡ Some c → contexts_of a.scopes e ≡ Some (behind p.nodes c k)
-  by e i k c (inl l) o at stands = h.contexts e i k c l o at stands
-  by e i k c (inr same) o at stands = absurd cc
+    below_or : (x y : ℕ) → x < suc y → (x < y) ⊎ (x ≡ y)
+    below_or zero zero l = inr refl
+    below_or zero (suc y) l = inl (omega arith)
+    below_or (suc x) zero l = absurd (omega (arith, l))
+    below_or (suc x) (suc y) l = up (below_or x y (omega (arith, l)))
+      where
+        up : (x < y) ⊎ (x ≡ y) → (suc x < suc y) ⊎ (suc x ≡ suc y)
+        up (inl h) = inl (omega (arith, h))
+        up (inr h) = inr (ap suc h)
+
+    by : (e i k : ℕ) (c : Context) → (e < reached) ⊎ (e ≡ reached) → let_of a e ≡ Some i → slice_get p.nodes i ≡ Some (node.Let k e) → contexts_of a.scopes i ≡ Some c → contexts_of a.scopes e ≡ Some (behind p.nodes c k)
+    by e i k c (inl l) o at stands = h.contexts e i k c l o at stands
+    by e i k c (inr same) o at stands = absurd cc
 
 -- ---- A `let` is noted
 
@@ -231,9 +233,9 @@ below_or_at zero (suc y) l = inl (omega arith)
 below_or_at (suc x) zero l = absurd (omega (arith, l))
 below_or_at (suc x) (suc y) l = up (below_or_at x y (omega (arith, l)))
   where
-  up : (x < y) ⊎ (x ≡ y) → (suc x < suc y) ⊎ (suc x ≡ suc y)
-  up (inl h) = inl (omega (arith, h))
-  up (inr h) = inr (ap suc h)
+    up : (x < y) ⊎ (x ≡ y) → (suc x < suc y) ⊎ (suc x ≡ suc y)
+    up (inl h) = inl (omega (arith, h))
+    up (inr h) = inr (ap suc h)
 
 same_or : (x y : ℕ) → (x ≡ y) ⊎ (x ≡ y → ⊥)
 same_or zero zero = inl refl
@@ -241,9 +243,9 @@ same_or zero (suc y) = inr (λ e. cc)
 same_or (suc x) zero = inr (λ e. cc)
 same_or (suc x) (suc y) = up (same_or x y)
   where
-  up : (x ≡ y) ⊎ (x ≡ y → ⊥) → (suc x ≡ suc y) ⊎ (suc x ≡ suc y → ⊥)
-  up (inl h) = inl (ap suc h)
-  up (inr h) = inr (λ e. h cc)
+    up : (x ≡ y) ⊎ (x ≡ y → ⊥) → (suc x ≡ suc y) ⊎ (suc x ≡ suc y → ⊥)
+    up (inl h) = inl (ap suc h)
+    up (inr h) = inr (λ e. h cc)
 
 -- the last node is no `let`
 pub none_noted : (p : Bare) (count : ℕ) (d : Declared) (a : Now) (n : ℕ) → ((k e : ℕ) → slice_get p.nodes n ≡ Some (node.Let k e) → ⊥) → IsGoing p count d a (suc n) n (suc n) → IsGoing p count d a (suc n) (suc n) (suc n)
@@ -256,9 +258,9 @@ none_noted p count d a n other h =
       contexts = h.contexts;
     }
   where
-  by : (i k e : ℕ) → slice_get p.nodes i ≡ Some (node.Let k e) → (i < n) ⊎ (i ≡ n) → let_of a e ≡ Some i
-  by i k e at (inl l) = h.lets.noted i k e l at
-  by i k e at (inr same) = absurd (other k e (subst (λ (x : ℕ). slice_get p.nodes x ≡ Some (node.Let k e)) same at))
+    by : (i k e : ℕ) → slice_get p.nodes i ≡ Some (node.Let k e) → (i < n) ⊎ (i ≡ n) → let_of a e ≡ Some i
+    by i k e at (inl l) = h.lets.noted i k e l at
+    by i k e at (inr same) = absurd (other k e (subst (λ (x : ℕ). slice_get p.nodes x ≡ Some (node.Let k e)) same at))
 
 module _ (p : Bare) (count : ℕ) (d : Declared) (a : Now) (after : List (Option ℕ)) (n k e : ℕ) (at : slice_get p.nodes n ≡ Some (node.Let k e)) (free : let_of a e ≡ None) (above : n < e) (here : let_of (with_behind a after) e ≡ Some n) (others : (x : ℕ) → (x ≡ e → ⊥) → let_of (with_behind a after) x ≡ let_of a x) (h : IsGoing p count d a (suc n) n (suc n)) where
   noted_at : (i k2 e2 : ℕ) → slice_get p.nodes i ≡ Some (node.Let k2 e2) → (i < n) ⊎ (i ≡ n) → let_of (with_behind a after) e2 ≡ Some i

@@ -124,14 +124,14 @@ module _ (forms after : List TyForm) (longer : IsLonger forms after) where
 pub known_kept : (a b : Stage) → Grows a b → AreThere a.unknowns.types a.settled → (x : ℕ) (s : Poly) → known a x ≡ Some s → known b x ≡ Some s
 known_kept a b g t x s e = kept_as (joined_settled (slice_get a.settled x)) refl e
   where
-  kept_as : (o : Option Settled) → joined_settled (slice_get a.settled x) ≡ o → settled_poly a.unknowns.types o ≡ Some s → known b x ≡ Some s
-  kept_as None h q = cc
-  kept_as (Some n) h q =
-      ap (settled_poly b.unknowns.types) (g.settled x n h)
-      ∙ sym (ap (settled_poly b.unknowns.types) h)
-      ∙ settled_same a.unknowns.types b.unknowns.types g.longer a.settled x t
-      ∙ ap (settled_poly a.unknowns.types) h
-      ∙ q
+    kept_as : (o : Option Settled) → joined_settled (slice_get a.settled x) ≡ o → settled_poly a.unknowns.types o ≡ Some s → known b x ≡ Some s
+    kept_as None h q = cc
+    kept_as (Some n) h q =
+        ap (settled_poly b.unknowns.types) (g.settled x n h)
+        ∙ sym (ap (settled_poly b.unknowns.types) h)
+        ∙ settled_same a.unknowns.types b.unknowns.types g.longer a.settled x t
+        ∙ ap (settled_poly a.unknowns.types) h
+        ∙ q
 
 solution_back : (names : List TypeName) (a b : Stage) (f : Substitution) → Grows a b → IsSolution names b.unknowns f → IsSolution names a.unknowns f
 solution_back names a b f g s = record { marks = λ i v e m. s.marks i v (g.longer.keeps i (Var v) e) m; solves = g.sound f s.solves }

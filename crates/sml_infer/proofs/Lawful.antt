@@ -35,15 +35,15 @@ module _ (p : Bare) (count : ℕ) (t : Typing) (lawful : IsLawful p count t) (pr
   pub has_binds : (i : ℕ) (n : Node) → i < count → slice_get p.nodes i ≡ Some n → HasBinds p t n
   has_binds i n l e = by_node n (prefix.parts i n l e) (prefix.binders i n l e)
     where
-    by_node : (n : Node) → AllByRecursion (λ c. c < count) (near_parts n) → AllByRecursion (λ c. is_binder_at (slice_get p.nodes c) ≡ true) (binding_parts n) → HasBinds p t n
-    by_node (node.Val us bindings) h k = of_bindings bindings h k
-    by_node _ h k = tt
+      by_node : (n : Node) → AllByRecursion (λ c. c < count) (near_parts n) → AllByRecursion (λ c. is_binder_at (slice_get p.nodes c) ≡ true) (binding_parts n) → HasBinds p t n
+      by_node (node.Val us bindings) h k = of_bindings bindings h k
+      by_node _ h k = tt
 
   pub has_matched : (i : ℕ) (n : Node) → i < count → slice_get p.nodes i ≡ Some n → HasBindsMatched p t n
   has_matched i n l e = by_node n (prefix.parts i n l e) (prefix.binders i n l e)
     where
-    by_node : (n : Node) → AllByRecursion (λ c. c < count) (near_parts n) → AllByRecursion (λ c. is_binder_at (slice_get p.nodes c) ≡ true) (binding_parts n) → HasBindsMatched p t n
-    by_node (node.Case e rules) h k = of_rules rules h.1 k
-    by_node (node.Fn rules) h k = of_rules rules h k
-    by_node (node.Handle e rules) h k = of_rules rules h.1 k
-    by_node _ h k = tt
+      by_node : (n : Node) → AllByRecursion (λ c. c < count) (near_parts n) → AllByRecursion (λ c. is_binder_at (slice_get p.nodes c) ≡ true) (binding_parts n) → HasBindsMatched p t n
+      by_node (node.Case e rules) h k = of_rules rules h.1 k
+      by_node (node.Fn rules) h k = of_rules rules h k
+      by_node (node.Handle e rules) h k = of_rules rules h.1 k
+      by_node _ h k = tt

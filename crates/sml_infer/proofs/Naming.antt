@@ -51,18 +51,18 @@ module _ (forms after : List TyForm) (bound : List (Option Ty)) (l : IsLonger fo
   rounds_longer zero v = rounds_zero after bound v ∙ sym (rounds_zero forms bound v)
   rounds_longer (suc i) v = go (rounds_longer i)
     where
-    go : ((w : TyVar) → rounds after bound i w ≡ rounds forms bound i w) → rounds after bound (suc i) v ≡ rounds forms bound (suc i) v
-    go ih =
-        bound_cases
-        bound
-        v.num
-        (rounds after bound (suc i) v ≡ rounds forms bound (suc i) v)
-        (λ e. rounds_free after bound (suc i) v e ∙ sym (rounds_free forms bound (suc i) v e))
-        (λ t e.
-        rounds_bound after bound i v t e
-        ∙ ap (inst (rounds after bound i)) (l.trees t.0 (b.within v.num t e))
-        ∙ inst_same (rounds after bound i) (rounds forms bound i) (tree forms t.0) (λ w o. ih w)
-        ∙ sym (rounds_bound forms bound i v t e))
+      go : ((w : TyVar) → rounds after bound i w ≡ rounds forms bound i w) → rounds after bound (suc i) v ≡ rounds forms bound (suc i) v
+      go ih =
+          bound_cases
+          bound
+          v.num
+          (rounds after bound (suc i) v ≡ rounds forms bound (suc i) v)
+          (λ e. rounds_free after bound (suc i) v e ∙ sym (rounds_free forms bound (suc i) v e))
+          (λ t e.
+          rounds_bound after bound i v t e
+          ∙ ap (inst (rounds after bound i)) (l.trees t.0 (b.within v.num t e))
+          ∙ inst_same (rounds after bound i) (rounds forms bound i) (tree forms t.0) (λ w o. ih w)
+          ∙ sym (rounds_bound forms bound i v t e))
 
   meant_longer : (v : TyVar) → meant after bound v ≡ meant forms bound v
   unfolding meant
@@ -168,26 +168,26 @@ named_by p forms after bound renames starts settled x opened s are ready l opens
 pub named_more : (p : Bare) (old forms after : List TyForm) (bound : List (Option Ty)) (renames : List Rename) (settled : List (Option Settled)) (schemes : List NameScheme) (s : NameScheme) → IsLonger old forms → IsLonger forms after → AreBindings old bound → AreThere old settled → AreNamed p old forms bound renames settled schemes → IsNamed p forms after bound renames settled (length schemes) s → AreNamed p old after bound renames settled (schemes ++ s ∷ [])
 named_more p old forms after bound renames settled schemes s l m bindings there all here x q e = by schemes x all_after here_after e
   where
-  stays : (x : ℕ) (q : NameScheme) → IsNamed p old forms bound renames settled x q → IsNamed p old after bound renames settled x q
-  stays x q h =
-      let k = h.there in
-      let c = m.count in
-      record { name = h.name; there = omega (arith, k, c); is = ap (poly q.scheme.vars) (m.trees q.scheme.body.0 k) ∙ h.is }
+    stays : (x : ℕ) (q : NameScheme) → IsNamed p old forms bound renames settled x q → IsNamed p old after bound renames settled x q
+    stays x q h =
+        let k = h.there in
+        let c = m.count in
+        record { name = h.name; there = omega (arith, k, c); is = ap (poly q.scheme.vars) (m.trees q.scheme.body.0 k) ∙ h.is }
 
-  all_after : (x : ℕ) (q : NameScheme) → slice_get schemes x ≡ Some q → IsNamed p old after bound renames settled x q
-  all_after x q e = stays x q (all x q e)
+    all_after : (x : ℕ) (q : NameScheme) → slice_get schemes x ≡ Some q → IsNamed p old after bound renames settled x q
+    all_after x q e = stays x q (all x q e)
 
-  here_after : IsNamed p old after bound renames settled (length schemes) s
-  here_after = record { name = here.name; there = here.there; is = here.is ∙ poly_longer old forms bound l bindings renames p settled (length schemes) there }
+    here_after : IsNamed p old after bound renames settled (length schemes) s
+    here_after = record { name = here.name; there = here.there; is = here.is ∙ poly_longer old forms bound l bindings renames p settled (length schemes) there }
 
-  last : (P : ℕ → NameScheme → Type 0) (xs : List NameScheme) (x : ℕ) → ((x : ℕ) (q : NameScheme) → slice_get xs x ≡ Some q → P x q) → P (length xs) s → slice_get (xs ++ s ∷ []) x ≡ Some q → P x q
-  last P [] zero h k e = let same : s ≡ q = cc in subst (P 0) same k
-  last P [] (suc x) h k e = absurd cc
-  last P (y ∷ xs) zero h k e = h 0 q e
-  last P (y ∷ xs) (suc x) h k e = last (λ x q. P (suc x) q) xs x (λ x q e. h (suc x) q e) k e
+    last : (P : ℕ → NameScheme → Type 0) (xs : List NameScheme) (x : ℕ) → ((x : ℕ) (q : NameScheme) → slice_get xs x ≡ Some q → P x q) → P (length xs) s → slice_get (xs ++ s ∷ []) x ≡ Some q → P x q
+    last P [] zero h k e = let same : s ≡ q = cc in subst (P 0) same k
+    last P [] (suc x) h k e = absurd cc
+    last P (y ∷ xs) zero h k e = h 0 q e
+    last P (y ∷ xs) (suc x) h k e = last (λ x q. P (suc x) q) xs x (λ x q e. h (suc x) q e) k e
 
-  by : (xs : List NameScheme) (x : ℕ) → ((x : ℕ) (q : NameScheme) → slice_get xs x ≡ Some q → IsNamed p old after bound renames settled x q) → IsNamed p old after bound renames settled (length xs) s → slice_get (xs ++ s ∷ []) x ≡ Some q → IsNamed p old after bound renames settled x q
-  by xs x h k e = last (λ x q. IsNamed p old after bound renames settled x q) xs x h k e
+    by : (xs : List NameScheme) (x : ℕ) → ((x : ℕ) (q : NameScheme) → slice_get xs x ≡ Some q → IsNamed p old after bound renames settled x q) → IsNamed p old after bound renames settled (length xs) s → slice_get (xs ++ s ∷ []) x ≡ Some q → IsNamed p old after bound renames settled x q
+    by xs x h k e = last (λ x q. IsNamed p old after bound renames settled x q) xs x h k e
 
 -- more forms are as ready
 pub ready_more : (p : Bare) (forms after : List TyForm) (bound : List (Option Ty)) (renames : List Rename) (starts : Starts) (settled : List (Option Settled)) → IsLonger forms after → AreRenames after renames → AreReady p forms bound renames starts settled → AreReady p after bound renames starts settled

@@ -39,9 +39,9 @@ open_kept p q s f h i t e x l = either_or (is_in t.unclosed x) (p x) (q x) (f x)
 closed_kept : (k l : ℕ → Option Poly) → ((x : ℕ) (s : Poly) → k x ≡ Some s → l x ≡ Some s) → (x : ℕ) → closed_at k x ≡ true → closed_at l x ≡ true
 closed_kept k l f x e = at (k x) refl e
   where
-  at : (o : Option Poly) → k x ≡ o → is_closed o ≡ true → closed_at l x ≡ true
-  at None h q = absurd cc
-  at (Some s) h q = ap is_closed (f x s h) ∙ q
+    at : (o : Option Poly) → k x ≡ o → is_closed o ≡ true → closed_at l x ≡ true
+    at None h q = absurd cc
+    at (Some s) h q = ap is_closed (f x s h) ∙ q
 
 pub all_open_kept : (k l : ℕ → Option Poly) (s : Stored) → ((x : ℕ) (q : Poly) → k x ≡ Some q → l x ≡ Some q) → AllOpen (closed_at k) s → AllOpen (closed_at l) s
 all_open_kept k l s f h = open_kept (closed_at k) (closed_at l) s (closed_kept k l f) h
@@ -117,9 +117,9 @@ module _ (p : Bare) (d : Declared) (a : Now) (s : Stored) (items : List Inside) 
         contexts = λ i c e. at i c (entered.only i c e);
       }
     where
-    at : (i : ℕ) (c : Context) → (contexts_of a.scopes i ≡ Some c) ⊎ IsOneOf (inside c i) items → t.contexts i ≡ c
-    at i c (inl e) = h.contexts i c e
-    at i c (inr e) = among t items (inside c i) k e
+      at : (i : ℕ) (c : Context) → (contexts_of a.scopes i ≡ Some c) ⊎ IsOneOf (inside c i) items → t.contexts i ≡ c
+      at i c (inl e) = h.contexts i c e
+      at i c (inr e) = among t items (inside c i) k e
 
   pub done_entered : (node : ℕ) → AreDone p d a node → AreDone p d (with_scopes a s) node
   done_entered node h i n l e = done_kept p d (stage a) (stage (with_scopes a s)) i n grows_entered sound.there sound.declared (h i n l e)

@@ -2,8 +2,8 @@
 
 use infer_scopes::Scopes;
 use infer_state::{Settled, Unknowns};
-use smlc_base::Row;
 use sml_types::TyVar;
+use smlc_base::Row;
 
 /// Inference of the nodes below `count`, of which those below `done` are done: the contexts of nodes, the schemes of names, what right sides generalise, the `let` of each node that stands behind a declaration, and the types with what is bound.
 #[derive(Drop)]

@@ -11,7 +11,8 @@ ghost use Rattle.sml_infer.specs.Schemes.{AreReady, are_free, var_renamed, IsRen
 use infer_state::{Settled, Starts};
 use sml_tree::Bare;
 use sml_types::{NameScheme, Scheme, Ty, TyVar, Types};
-use sml_unify::{Rename, Subst, resolve::resolve};
+use sml_unify::resolve::resolve;
+use sml_unify::{Rename, Subst};
 use smlc_base::{Name, NoMemory, Row};
 use std::alloc::Global;
 

@@ -45,10 +45,14 @@ fn typed(alloc: Global, bare: Bare, below: Below) -> Result<Typed, NoMemory>
         renames,
     } = below;
     let Inference {
-        settled, unknowns, ..
+        settled,
+        unknowns,
+        ..
     } = work;
     let Unknowns {
-        mut types, subst, ..
+        mut types,
+        subst,
+        ..
     } = unknowns;
     let schemes = name_schemes(
         alloc,

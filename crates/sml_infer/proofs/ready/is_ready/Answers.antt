@@ -22,4 +22,3 @@ returns-in-PatApp c = λ forms k h e. subst (λ (n : Node). IsReady (settled_at 
 
 pub returns-in-SameException : goal.returns-in-SameException
 returns-in-SameException c = λ forms k h e. subst (λ (n : Node). IsReady (settled_at forms c.args.settled.now) k n × IsOwnOpen (settled_at forms c.args.settled.now) k n) (sym c.in-SameException.is) ((c.con_ready-in-SameException.ensures forms k h e, tt))
-

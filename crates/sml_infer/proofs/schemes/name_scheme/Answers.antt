@@ -9,4 +9,4 @@ returns-clause-renames c = renames_kept c.args.renames.now c.args.types.now c.re
 pub returns-clause-named : goal.returns-clause-named
 returns-clause-named c =
     named_by c.args.bare.now c.args.types.now c.resolve.new.types c.args.subst.now.bound c.args.renames.now c.args.starts.now c.args.settled.now c.args.name c.in_ok-opened.opened _
-      c.forms.ensures.kept c.requires.ready c.requires.name c.in_ok-opened.ensures refl refl c.in_ok-resolved.ensures.there c.in_ok-resolved.ensures.is
+    c.forms.ensures.kept c.requires.ready c.requires.name c.in_ok-opened.ensures refl refl c.in_ok-resolved.ensures.there c.in_ok-resolved.ensures.is

@@ -8,11 +8,11 @@ use Rattle.sml_infer.proofs.turn.enter.Goals as goal
 pub returns-clause-going : goal.returns-clause-going
 returns-clause-going c =
     if_ok_both _ _ _ c.enter.result c.enter.ensures.entered c.enter.ensures.closed (λ r entered closed.
-        enter_goes c.args.bare.now c.args.work.now.count c.args.declared.now (now c.args.work.now) _ c.args.work.now.done _ c.requires.going c.requires.within
-          (λ t h. lawful c.args.bare.now c.args.work.now.count t c.requires.numbered c.requires.prefix h) entered closed)
+    enter_goes c.args.bare.now c.args.work.now.count c.args.declared.now (now c.args.work.now) _ c.args.work.now.done _ c.requires.going c.requires.within
+    (λ t h. lawful c.args.bare.now c.args.work.now.count t c.requires.numbered c.requires.prefix h) entered closed)
 
 pub returns-clause-entered : goal.returns-clause-entered
 returns-clause-entered c =
     if_ok_both _ _ _ c.enter.result c.enter.ensures.entered c.enter.ensures.closed (λ r entered closed.
-        enter_entered c.args.bare.now c.args.work.now.count c.args.declared.now (now c.args.work.now) _ c.args.work.now.done _ c.requires.going c.requires.within
-          (λ t h. lawful c.args.bare.now c.args.work.now.count t c.requires.numbered c.requires.prefix h) entered closed)
+    enter_entered c.args.bare.now c.args.work.now.count c.args.declared.now (now c.args.work.now) _ c.args.work.now.done _ c.requires.going c.requires.within
+    (λ t h. lawful c.args.bare.now c.args.work.now.count t c.requires.numbered c.requires.prefix h) entered closed)

@@ -12,8 +12,8 @@ returns-clause-going c =
     let p = c.args.bare.now in
     let a = now c.args.work.now in
     if_ok_both _ _ _ c.enter_body.result c.enter_body.ensures.entered c.enter_body.ensures.closed (λ r entered open_after.
-        close_goes p c.args.work.now.count c.args.declared.now a _ _ _ c.args.work.now.done c.args.node c.in-Some.at
-          c.requires.going c.requires.within (subst (λ (xs : List (Option ℕ)). joined_number (slice_get xs c.args.node) ≡ Some c.in-Some.at) c.deref.ensures.value (sym c.let_before.ensures ∙ c.in-Some.is)) c.requires.numbered c.requires.prefix
-          (λ t h. lawful p c.args.work.now.count t c.requires.numbered c.requires.prefix h)
-          c.forms.ensures.kept closed.state closed.there closed.bodies closed.kept closed.suited entered
-          (left_closed p.nodes _ _ _ c.in-Some.at _ _ c.deref-2.ensures.value c.requires.numbered closed.left (open_after _)))
+    close_goes p c.args.work.now.count c.args.declared.now a _ _ _ c.args.work.now.done c.args.node c.in-Some.at
+    c.requires.going c.requires.within (subst (λ (xs : List (Option ℕ)). joined_number (slice_get xs c.args.node) ≡ Some c.in-Some.at) c.deref.ensures.value (sym c.let_before.ensures ∙ c.in-Some.is)) c.requires.numbered c.requires.prefix
+    (λ t h. lawful p c.args.work.now.count t c.requires.numbered c.requires.prefix h)
+    c.forms.ensures.kept closed.state closed.there closed.bodies closed.kept closed.suited entered
+    (left_closed p.nodes _ _ _ c.in-Some.at _ _ c.deref-2.ensures.value c.requires.numbered closed.left (open_after _)))

@@ -13,8 +13,8 @@ pub invariant_of-result : goal.invariant_of-result
 invariant_of-result c =
     let b = c.args.below in
     let named =
-        named_of c.args.bare b.work.unknowns.types c.name_schemes.new.types b.work.unknowns.subst.bound c.deref-2.result.now b.renames.items c.deref.result.now b.work.settled.items c.in_ok-schemes.schemes.items c.from_vec.result
-          c.deref-2.ensures.value c.deref.ensures.value c.from_vec.ensures c.in_ok-schemes.ensures.named in
+    named_of c.args.bare b.work.unknowns.types c.name_schemes.new.types b.work.unknowns.subst.bound c.deref-2.result.now b.renames.items c.deref.result.now b.work.settled.items c.in_ok-schemes.schemes.items c.from_vec.result
+    c.deref-2.ensures.value c.deref.ensures.value c.from_vec.ensures c.in_ok-schemes.ensures.named in
     record {
       ordered = in_order c.args.bare b.work.unknowns.types c.name_schemes.new.types b.work.unknowns.subst.bound b.renames.items b.work.settled.items c.from_vec.result named;
       complete = ap (λ (xs : List NameScheme). length xs) c.from_vec.ensures ∙ c.in_ok-schemes.ensures.count;
@@ -24,6 +24,6 @@ pub returns : goal.returns
 returns c =
     let b = c.args.below in
     let named =
-        named_of c.args.bare b.work.unknowns.types c.name_schemes.new.types b.work.unknowns.subst.bound c.deref-2.result.now b.renames.items c.deref.result.now b.work.settled.items c.in_ok-schemes.schemes.items c.from_vec.result
-          c.deref-2.ensures.value c.deref.ensures.value c.from_vec.ensures c.in_ok-schemes.ensures.named in
+    named_of c.args.bare b.work.unknowns.types c.name_schemes.new.types b.work.unknowns.subst.bound c.deref-2.result.now b.renames.items c.deref.result.now b.work.settled.items c.in_ok-schemes.schemes.items c.from_vec.result
+    c.deref-2.ensures.value c.deref.ensures.value c.from_vec.ensures c.in_ok-schemes.ensures.named in
     is_inferred c.args.bare b _ c.requires.below refl refl c.in_ok-schemes.ensures.longer named
