@@ -79,7 +79,7 @@ module _ (forms after : List TyForm) (bound : List (Option Ty)) (l : IsLonger fo
   meant_longer v = rounds_longer (length bound) v
 
 pub grows_same : (u : Unknowns) (old : List (Option Settled)) → AreThere u.types old → Grows u u old old
-grows_same u old h = record { bound = refl; next = refl; longer = longer_same u.types; vars = λ i v e. (i, e); kept = λ x s e. e; there = h }
+grows_same u old h = record { bound = refl; next = refl; longer = longer_same u.types; vars = λ i v e. (i, e); kept = λ x s e. e; there = h; count = refl }
 
 pub grows_then : (a b c : Unknowns) (x y z : List (Option Settled)) → Grows a b x y → Grows b c y z → Grows a c x z
 grows_then a b c x y z g h =
@@ -90,6 +90,7 @@ grows_then a b c x y z g h =
       vars = λ i v e. let r = h.vars i v e in g.vars r.0 v r.1;
       kept = λ n s e. h.kept n s (g.kept n s e);
       there = h.there;
+      count = h.count ∙ g.count;
     }
 
 module _ (a b : Unknowns) (x y : List (Option Settled)) (g : Grows a b x y) where

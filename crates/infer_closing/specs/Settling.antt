@@ -21,6 +21,7 @@ pub record IsPut (old : List (Option Settled)) (x : ℕ) (s : Settled) (new : Li
   pub was : joined_settled (slice_get old x) ≡ None
   pub here : slice_get new x ≡ Some (Some s)
   pub others : (y : ℕ) → (y ≡ x → ⊥) → slice_get new y ≡ slice_get old y
+  pub count : length new ≡ length old
 
 -- more forms and more settled names, for the same variables
 pub record Grows (before after : Unknowns) (old new : List (Option Settled)) : Type 0 where
@@ -30,6 +31,7 @@ pub record Grows (before after : Unknowns) (old new : List (Option Settled)) : T
   pub vars : (i : ℕ) (v : TyVar) → slice_get after.types i ≡ Some (Var v) → IsFormVar before.types v
   pub kept : AreKept old new
   pub there : AreThere after.types new
+  pub count : length new ≡ length old
 
 -- a name of a program stands at this scheme
 abbrev pub StandsAt : Bare → Substitution → (ℕ → Option Poly) → List TyVar → ℕ → Type 0

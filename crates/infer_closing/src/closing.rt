@@ -1,6 +1,6 @@
 //! Declarations are closed.
 
-ghost use Rattle.std.specs.Prelude.{◌≡◌, ℕ, Some, IfOk, slice_get};
+ghost use Rattle.std.specs.Prelude.{◌≡◌, ℕ, Some, IfOk, length, slice_get};
 ghost use Rattle.std.specs.List.{AllByRecursion};
 ghost use Rattle.sml_tree.specs.BareParts.{IsNumbered};
 ghost use Rattle.sml_tree.specs.declared.bare.Node.{Node};
@@ -60,6 +60,7 @@ pub fn close(
     ensures there { IfOk result (λ _. AreThere unknowns.new.types settled.new.items) }
     ensures bodies { IfOk result (λ _. AreBodies bare.now unknowns.old (settled_at unknowns.old.types settled.old.items) → AreBodies bare.now unknowns.new (settled_at unknowns.new.types settled.new.items)) }
     ensures kept { IfOk result (λ _. AreKept settled.old.items settled.new.items) }
+    ensures count { IfOk result (λ _. length settled.new.items ≡ length settled.old.items) }
     ensures general { IfOk result (λ _. AreGeneralKept general.old.items general.new.items) }
     ensures closed { IfOk result (λ _. (d : ℕ) (n : Node) → IsLetAt bare.now.nodes node d n → AllByRecursion (IsClosed bare.now (meaning unknowns.new) general.new.items (settled_at unknowns.new.types settled.new.items)) (of_declaration bare.now.nodes n)) }
     ensures fresh { IfOk result (λ _. (c : Context) (d : ℕ) (n : Node) → contexts_of scopes.now node ≡ Some c → AllOpen (closed_at (settled_at unknowns.old.types settled.old.items)) scopes.now → IsLetAt bare.now.nodes node d n → AllByRecursion (IsFreshAt bare.now (settled_at unknowns.old.types settled.old.items) (meaning unknowns.old) c general.new.items) (of_declaration bare.now.nodes n)) }

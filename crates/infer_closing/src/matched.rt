@@ -1,6 +1,6 @@
 //! The names of matches are settled.
 
-ghost use Rattle.std.specs.Prelude.{◌≡◌, List, Some, None, [], ◌∷◌, IfOk, IfSome, slice_get};
+ghost use Rattle.std.specs.Prelude.{◌≡◌, List, Some, None, [], ◌∷◌, IfOk, IfSome, length, slice_get};
 ghost use Rattle.std.specs.List.{AllByRecursion};
 ghost use Rattle.sml_tree.specs.BareParts.{IsNumbered};
 ghost use Rattle.sml_tree.specs.declared.bare.Node.{Node};
@@ -122,6 +122,7 @@ pub fn settle_matched(
     ensures there { IfOk result (λ _. AreThere unknowns.now.types settled.new.items) }
     ensures bodies { IfOk result (λ _. AreBodies bare.now unknowns.now (settled_at unknowns.now.types settled.old.items) → AreBodies bare.now unknowns.now (settled_at unknowns.now.types settled.new.items)) }
     ensures kept { IfOk result (λ _. AreKept settled.old.items settled.new.items) }
+    ensures count { IfOk result (λ _. length settled.new.items ≡ length settled.old.items) }
     ensures matched { IfOk result (λ _. (n : Node) → slice_get bare.now.nodes node ≡ Some n → AllByRecursion (λ x. settled_at unknowns.now.types settled.new.items x ≡ Some (mono (Variable (name_var bare.now x)))) (names_matched bare.now.nodes n)) }
     ensures suited { IfOk result (λ _. StaysMatched bare.now node (settled_at unknowns.now.types settled.old.items) (settled_at unknowns.now.types settled.new.items)) }
 {

@@ -22,6 +22,7 @@ returns-clause-grown c =
       kept = put_kept c.args.settled.now.items c.args.name s c.put.new.settled.items c.in_ok-put.ensures;
       there =
           put_there c.args.settled.now.items c.args.name s c.put.new.settled.items c.in_ok-put.ensures u.types u.types (longer_same u.types) c.requires.there (own_there u.types s (name_var c.args.bare.now c.args.name) q refl c.new.ensures);
+      count = c.in_ok-put.ensures.count;
     }
 
 pub returns-clause-newly : goal.returns-clause-newly

@@ -31,6 +31,7 @@ returns-clause-grown c =
           c.resolve.ensures.longer
           c.requires.there
           (entry_there u.types c.resolve.new.types s c.args.vars.now c.resolve.ensures.longer c.in_ok-resolved.ensures.order c.in_ok-resolved.ensures.there c.in_ok-resolved.ensures.segment c.in_ok-vars.ensures c.requires.vars);
+      count = c.in_ok-put.ensures.count;
     }
 
 pub returns-clause-newly : goal.returns-clause-newly
