@@ -201,6 +201,16 @@ impl Chains {
         false
     }
 
+    /// Whether an item is in a list. Where it was put last, in the cell `home`, it is found soon; a list that doesn't go as far as that cell, since it was put there again later, is looked through cell by cell.
+    pub(crate) fn holds(&self, head: Option<u32>, item: u32, home: Option<usize>) -> bool
+        ensures { result ≡ is_in (chain self.now head) item }
+    {
+        match home {
+            Some(home) if self.reaches(head, item, home) => true,
+            _ => self.contains(head, item),
+        }
+    }
+
     /// The items of a list.
     pub(crate) fn items(&self, alloc: Global, head: Option<u32>) -> Result<Vec<u32>, NoMemory>
         ensures { IfOk result (λ v. v.items ≡ chain self.now head) }

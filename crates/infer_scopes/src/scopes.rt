@@ -409,16 +409,18 @@ impl Scopes {
         }
     }
 
-    /// Whether a name is bound around a node. What it finds is bound there.
+    // The cell in which a name was put last.
+    fn home(&self, name: Name) -> Option<usize> {
+        *self.homes.get(name.0 as usize)?
+    }
+
+    /// Whether a name is bound around a node.
     pub fn is_bound(&self, node: u32, name: Name) -> bool
-        ensures { IsTrue result → (c : Context) → contexts_of self.now node ≡ Some c → is_in c.names name.0 ≡ true }
+        ensures { (c : Context) → contexts_of self.now node ≡ Some c → result ≡ is_in c.names name.0 }
     {
-        let Some(scope) = self.scope(node) else {
-            return false;
-        };
-        match self.homes.get(name.0 as usize) {
-            Some(Some(home)) => self.chains.reaches(scope.names, name.0, *home),
-            _ => false,
+        match self.scope(node) {
+            Some(scope) => self.chains.holds(scope.names, name.0, self.home(name)),
+            None => false,
         }
     }
 
