@@ -9,3 +9,5 @@ pub mod KeptFacts
 pub mod AroundFacts
 pub mod NodeFacts
 pub mod Mentions
+pub mod BoundFacts
+pub mod CheckedFacts
