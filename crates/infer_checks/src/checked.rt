@@ -50,7 +50,7 @@ fn check_nodes(
 {
     'nodes: for node in 0..count {
         match check_node(
-            alloc, bare, declared, scopes, plain, settled, general, unknowns, renames, count, node,
+            alloc, bare, declared, scopes, plain, settled, general, unknowns, renames, node, count,
         ) {
             Ok(()) => {}
             Err(failed) => return Err(failed),

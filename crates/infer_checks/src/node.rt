@@ -37,8 +37,8 @@ pub(crate) fn check_node(
     general: &[Option<Row<TyVar>>],
     unknowns: &Unknowns,
     renames: &[Rename],
-    count: u32,
     node: u32,
+    count: u32,
 ) -> Result<(), Failure>
     requires state { IsState declared.now.tables.names unknowns.now }
     requires laid { AreLaidOut bare.now unknowns.now.types declared.now.starts }
