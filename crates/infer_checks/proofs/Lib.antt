@@ -9,3 +9,8 @@ pub mod KeptFacts
 pub mod AroundFacts
 pub mod NodeFacts
 pub mod Mentions
+pub mod NodeLaws
+pub mod AskedLaws
+pub mod ValueFacts
+pub mod Verdicts
+pub mod FormLaws

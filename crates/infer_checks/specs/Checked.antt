@@ -56,6 +56,14 @@ module _ (p : Bare) (d : Declared) (contexts : ℕ → Option Context) (settled 
   abbrev pub ended : List Rename → Typing
   ended renames = typing_of p s.types d.tables.names d.abbreviations contexts known (generals general) (ending s renames)
 
+  -- what stands of the renames before the nodes are looked at
+  pub record AreEnding (renames : List Rename) : Type 0 where
+    pub solution : IsSolution d.tables.names s (ending s renames)
+    pub explicit_ones : (u : ℕ) → u < length p.tyvars → ending s renames (explicit p.tyvars u) ≡ Variable (explicit p.tyvars u)
+    pub renames_agree : AreRenames s.types renames
+    pub for_explicit : AllByRecursion (IsForExplicit p s.types s.subst.bound) renames
+    pub proper : (x : ℕ) (q : Poly) → known x ≡ Some q → IsProper (ending s renames) q
+
   -- what stands in the end is a solution that leaves the explicit type variables as they are, each settled scheme has different variables of its own, and the nodes below a number have what they need
   pub record IsChecked (count : ℕ) (renames : List Rename) : Type 0 where
     pub solution : IsSolution d.tables.names s (ending s renames)

@@ -8,9 +8,11 @@ pub mod explicit;
 pub mod fresh;
 pub mod known;
 pub mod matched;
+pub mod node;
 pub mod numbers;
 pub mod open;
 pub mod proper;
 pub mod surroundings;
+pub mod values;
 
 pub use checked::check;
