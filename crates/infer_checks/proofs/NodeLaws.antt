@@ -1,13 +1,12 @@
 -- What the checks of a node say of the typing that inference ends with, and of others.
-use Rattle.std.proofs.Common.{◌≡◌, ℕ, ◌+◌, ◌<◌, Bool, true, false, List, [], ◌∷◌, length, Option, Some, None, refl, sym, ap, ◌∙◌, inl, inr, ◌⊎◌, map}
+use Rattle.std.proofs.Common.{◌≡◌, ℕ, ◌+◌, ◌<◌, Bool, true, false, List, [], ◌∷◌, length, Option, Some, refl, sym, ap, ◌∙◌, inl, inr, ◌⊎◌, map}
 use Rattle.std.specs.List.{AllByRecursion}
 use Rattle.sml_tree.specs.declared.bare.Bare.{Bare}
 use Rattle.sml_tree.specs.declared.bare.Rule.{Rule}
 use Rattle.sml_tree.specs.declared.bare.Binding.{Binding}
 use Rattle.sml_tree.specs.declared.bare.RecBinding.{RecBinding}
 use Rattle.sml_types.specs.declared.types.TyVar.{TyVar}
-use Rattle.sml_types.specs.declared.types.TyForm.{TyForm}
-use Rattle.sml_types.specs.Tree.{Tree, inst, AllVars, occurs}
+use Rattle.sml_types.specs.Tree.{inst, AllVars, occurs}
 use Rattle.sml_types.specs.Escape.{mentions, AreKnown}
 use Rattle.sml_types.specs.NonExpansive.{AreNonExpansive}
 use Rattle.sml_types.specs.Poly.{Poly, Context, is_free, IsFresh}
@@ -25,9 +24,9 @@ use Rattle.infer_state.specs.Variables.{name_var, node_var}
 use Rattle.infer_laws.specs.Schemes.{AreNamedOnce, EachSettled}
 use Rattle.infer_laws.proofs.Settled.{settled_known, settled_once}
 use Rattle.infer_closing.specs.Closing.{meaning}
-use Rattle.infer_checks.specs.Checked.{ending, ended, generals}
-use Rattle.infer_checks.specs.Ending.{HasVars, AreMatchedNames, IsNameKnown, IsKnownIfNamed, IsNewAround, MayBeNew, IsOpenName, IsOpenNumber}
-use Rattle.infer_checks.specs.Node.{IsGiven, GoesWith, NoneHas, IsMatchKnown, IsDeclarationKnown, general_vars, IsGeneralised, IsLeftOut, MayBeLeftOut, AreLeftOut, MayBeAllLeftOut, IsDeclaredWell, MayBeDeclared}
+use Rattle.infer_checks.specs.Checked.{ending, ended}
+use Rattle.infer_checks.specs.Ending.{HasVars, AreMatchedNames, IsKnownIfNamed, IsNewAround, MayBeNew}
+use Rattle.infer_checks.specs.Node.{IsGiven, GoesWith, NoneHas, IsMatchKnown, IsDeclarationKnown, general_vars, IsGeneralised, IsLeftOut, MayBeLeftOut, MayBeAllLeftOut, IsDeclaredWell, MayBeDeclared}
 use Rattle.infer_checks.proofs.Free.{free_is_open, open_not_free}
 use Rattle.infer_checks.proofs.Mentions.{mentions_back, mentions_renamed}
 use Rattle.infer_checks.proofs.NodeFacts.{are_known, has_vars, are_closed, new_fresh, typing_knows, fresh_new}
@@ -109,9 +108,9 @@ module _ (p : Bare) (d : Declared) (contexts : ℕ → Option Context) (settled 
     plain h.plain,
   )
     where
-    plain : (general_vars general right ≡ []) ⊎ AreNonExpansive p.nodes (right ∷ []) → (t.gens right ≡ []) ⊎ AreNonExpansive p.nodes (right ∷ [])
-    plain (inl e) = inl (ap (λ (vs : List TyVar). map (λ v. var_at v (f v)) vs) e)
-    plain (inr k) = inr k
+      plain : (general_vars general right ≡ []) ⊎ AreNonExpansive p.nodes (right ∷ []) → (t.gens right ≡ []) ⊎ AreNonExpansive p.nodes (right ∷ [])
+      plain (inl e) = inl (ap (λ (vs : List TyVar). map (λ v. var_at v (f v)) vs) e)
+      plain (inr k) = inr k
 
   names_finished : (c : Context) (right : ℕ) (names : List ℕ) → IsGeneralised p known f general c right names → AreClosed p t (t.gens right) names
   names_finished c right names h =
@@ -135,10 +134,10 @@ module _ (p : Bare) (d : Declared) (contexts : ℕ → Option Context) (settled 
   left_out_free : (x u : ℕ) → IsLeftOut known f x u → is_free u (t.schemes x) ≡ false
   left_out_free x u (q, e, out) = by (is_free u (t.schemes x)) refl
     where
-    by : (b : Bool) → is_free u (t.schemes x) ≡ b → b ≡ false
-    by false z = refl
-    by true z =
-        absurd (out (free_is_open f q (given.ending.proper x q e) (once x q e) u (sym (ap (λ o. is_free u (scheme_under f o (f (name_var p x)))) e) ∙ z)))
+      by : (b : Bool) → is_free u (t.schemes x) ≡ b → b ≡ false
+      by false z = refl
+      by true z =
+          absurd (out (free_is_open f q (given.ending.proper x q e) (once x q e) u (sym (ap (λ o. is_free u (scheme_under f o (f (name_var p x)))) e) ∙ z)))
 
   pub explicit_finished : (c : Context) (us xs : List ℕ) → IsDeclaredWell p known m f c us xs → AreExplicit p t us c xs
   explicit_finished c us xs h =

@@ -13,7 +13,7 @@ use Rattle.infer_parts.specs.Plain.{plain_at, IsPlainTable}
 use Rattle.infer_state.specs.declared.settled.Settled.{Settled}
 use Rattle.infer_state.specs.Fits.{settled_poly}
 use Rattle.infer_state.specs.Typings.{var_at}
-use Rattle.infer_checks.specs.Ending.{Decides, Lists, HasVars, IsOpenNumber, IsOpenName, IsOutside, IsNewAround, MayBeNew, IsNameKnown, IsKnownIfNamed}
+use Rattle.infer_checks.specs.Ending.{Decides, Lists, HasVars, IsOpenNumber, IsOpenName, IsOutside, IsNewAround, IsNameKnown}
 use Rattle.infer_checks.specs.Node.{general_vars, IsGeneralised, IsLeftOut, MayBeLeftOut, AreLeftOut, MayBeAllLeftOut, IsDeclaredWell, MayBeDeclared}
 
 -- a name leaves out what is not among the numbers that it leaves open

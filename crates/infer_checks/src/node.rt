@@ -63,9 +63,7 @@ fn check_rules(
     ensures finished { IfOk result (λ _. (c : Context) → contexts_of scopes.now node ≡ Some c → AllByRecursion (λ r. AreMatchedNames bare.now (settled_at unknowns.now.types settled.now) (meaning unknowns.now) c (names_bound bare.now.nodes r.pat)) rules.now) }
     ensures refused { IsRefused result ((c : Context) → contexts_of scopes.now node ≡ Some c → AllByRecursion (λ r. AllByRecursion (IsKnownIfNamed bare.now (meaning unknowns.now) c) (names_bound bare.now.nodes r.pat)) rules.now → ⊥) }
 {
-    verdict(are_matched(
-        alloc, bare, starts, scopes, settled, unknowns, node, rules,
-    ))
+    verdict(are_matched(alloc, bare, starts, scopes, settled, unknowns, node, rules))
 }
 
 // The type of an expression behind a declaration.
@@ -85,13 +83,7 @@ fn check_let(
 {
     // What holds of all forms.
     let _ = unknowns.types.forms();
-    verdict(is_known(
-        alloc,
-        scopes,
-        unknowns,
-        node,
-        Ty(starts.nodes + node),
-    ))
+    verdict(is_known(alloc, scopes, unknowns, node, Ty(starts.nodes + node)))
 }
 
 // The name of an exception constructor.
@@ -202,13 +194,34 @@ fn check_form(
     let starts = &declared.starts;
     match form {
         Node::Case(_, rules) => check_rules(
-            alloc, bare, starts, scopes, settled, unknowns, node, rules.items(),
+            alloc,
+            bare,
+            starts,
+            scopes,
+            settled,
+            unknowns,
+            node,
+            rules.items(),
         ),
         Node::Fn(rules) => check_rules(
-            alloc, bare, starts, scopes, settled, unknowns, node, rules.items(),
+            alloc,
+            bare,
+            starts,
+            scopes,
+            settled,
+            unknowns,
+            node,
+            rules.items(),
         ),
         Node::Handle(_, rules) => check_rules(
-            alloc, bare, starts, scopes, settled, unknowns, node, rules.items(),
+            alloc,
+            bare,
+            starts,
+            scopes,
+            settled,
+            unknowns,
+            node,
+            rules.items(),
         ),
         Node::Let(_, _) => check_let(alloc, bare, starts, scopes, unknowns, node),
         Node::Val(tyvars, bindings) => check_values(

@@ -17,8 +17,8 @@ returns-clause-finished c =
     let here : slice_get c.args.bare.now.nodes c.args.node ≡ Some form = form_there c.args.bare.now.nodes c.items.result.now c.args.node form c.items.ensures few c.index-items-node.is in
     IfOk-weaker c.check_form.result _ _
     (λ x h n around at none q.
-      let same : form ≡ n = form_is c.args.bare.now.nodes c.args.node form n here at in
-      subst (λ (k : Node). IsFinished c.args.bare.now (ended c.args.bare.now c.args.declared.now (contexts_of c.args.scopes.now) c.args.settled.now c.args.general.now c.args.unknowns.now c.args.renames.now) around c.args.node k) same (h (subst IsNoTypeDeclaration (sym same) none) around q))
+    let same : form ≡ n = form_is c.args.bare.now.nodes c.args.node form n here at in
+    subst (λ (k : Node). IsFinished c.args.bare.now (ended c.args.bare.now c.args.declared.now (contexts_of c.args.scopes.now) c.args.settled.now c.args.general.now c.args.unknowns.now c.args.renames.now) around c.args.node k) same (h (subst IsNoTypeDeclaration (sym same) none) around q))
     c.check_form.ensures.finished
 
 pub returns-clause-refused : goal.returns-clause-refused
@@ -31,7 +31,7 @@ returns-clause-refused c =
     let stands = c.has.ensures has in
     refused_weaker c.check_form.result _ _
     (λ h t g typing fits solution suits contexts binds.
-      h stands.0 stands.1 t g (record { fits = fits; solution = solution; suits = suits }) (asks p t c.args.count typing c.requires.prefix binds c.args.node form stands.0 c.requires.below here (contexts c.args.node stands.0 stands.1)))
+    h stands.0 stands.1 t g (record { fits = fits; solution = solution; suits = suits }) (asks p t c.args.count typing c.requires.prefix binds c.args.node form stands.0 c.requires.below here (contexts c.args.node stands.0 stands.1)))
     c.check_form.ensures.refused
 
 pub check_form-requires-clause-given : goal.check_form-requires-clause-given
