@@ -106,17 +106,17 @@ module _ (p : Bare) (d : Declared) (contexts : ℕ → Option Context) (settled 
 
   -- ---- Matches
 
-  module _ (rules rs : List Rule) (same : rs ≡ rules) where
-    pub rules_end : ((c : Context) → AreMatched p t c rules → IsFinished p t c i n) → IfOk result (λ _. Here (λ c. AllByRecursion (λ r. AreMatchedNames p known m c (names r.pat)) rs)) → Ends
+  module _ (rules : List Rule) where
+    pub rules_end : ((c : Context) → AreMatched p t c rules → IsFinished p t c i n) → IfOk result (λ _. Here (λ c. AllByRecursion (λ r. AreMatchedNames p known m c (names r.pat)) rules)) → Ends
     rules_end back h =
-        IfOk-weaker result (λ _. Here (λ c. AllByRecursion (λ r. AreMatchedNames p known m c (names r.pat)) rs)) (λ _. IsNoTypeDeclaration n → Here (λ c. IsFinished p t c i n))
-        (λ x k none c q. back c (subst (λ (ys : List Rule). AreMatched p t c ys) same (rules_finished p d contexts settled general s renames given c rs (k c q))))
+        IfOk-weaker result (λ _. Here (λ c. AllByRecursion (λ r. AreMatchedNames p known m c (names r.pat)) rules)) (λ _. IsNoTypeDeclaration n → Here (λ c. IsFinished p t c i n))
+        (λ x k none c q. back c (rules_finished p d contexts settled general s renames given c rules (k c q)))
         h
 
-    pub rules_refuse : ((other : Typing) (c : Context) → Asks p other c i n → IsMatchKnown p other c rules) → IsRefused result (Here (λ c. AllByRecursion (λ r. AllByRecursion (IsKnownIfNamed p m c) (names r.pat)) rs → ⊥)) → Refuses
+    pub rules_refuse : ((other : Typing) (c : Context) → Asks p other c i n → IsMatchKnown p other c rules) → IsRefused result (Here (λ c. AllByRecursion (λ r. AllByRecursion (IsKnownIfNamed p m c) (names r.pat)) rules → ⊥)) → Refuses
     rules_refuse ask h =
-        refused_weaker result (Here (λ c. AllByRecursion (λ r. AllByRecursion (IsKnownIfNamed p m c) (names r.pat)) rs → ⊥)) (Here (λ c. NoneHas p d settled s (λ other. Asks p other c i n)))
-        (λ k c q other g goes a. rules_refused p d contexts settled general s renames given c rs (k c q) other g goes (subst (λ (ys : List Rule). IsMatchKnown p other c ys) (sym same) (ask other c a)))
+        refused_weaker result (Here (λ c. AllByRecursion (λ r. AllByRecursion (IsKnownIfNamed p m c) (names r.pat)) rules → ⊥)) (Here (λ c. NoneHas p d settled s (λ other. Asks p other c i n)))
+        (λ k c q other g goes a. rules_refused p d contexts settled general s renames given c rules (k c q) other g goes (ask other c a))
         h
 
   -- ---- Expressions behind declarations
@@ -155,42 +155,36 @@ module _ (p : Bare) (d : Declared) (contexts : ℕ → Option Context) (settled 
 
   -- ---- Value declarations
 
-  refuses : (us vs : List ℕ) → vs ≡ us → ((other : Typing) (c : Context) → Asks p other c i n → IsDeclarationKnown p other us c i) → IsRefused result (Here (λ c. MayBeDeclared p known m f c vs (names i) → ⊥)) → Refuses
-  refuses us vs same ask h =
-      refused_weaker result (Here (λ c. MayBeDeclared p known m f c vs (names i) → ⊥)) (Here (λ c. NoneHas p d settled s (λ other. Asks p other c i n)))
-      (λ k c q other g goes a. declaration_refused p d contexts settled general s renames given vs c i (k c q) other g goes (subst (λ (ws : List ℕ). IsDeclarationKnown p other ws c i) (sym same) (ask other c a)))
+  refuses : (us : List ℕ) → ((other : Typing) (c : Context) → Asks p other c i n → IsDeclarationKnown p other us c i) → IsRefused result (Here (λ c. MayBeDeclared p known m f c us (names i) → ⊥)) → Refuses
+  refuses us ask h =
+      refused_weaker result (Here (λ c. MayBeDeclared p known m f c us (names i) → ⊥)) (Here (λ c. NoneHas p d settled s (λ other. Asks p other c i n)))
+      (λ k c q other g goes a. declaration_refused p d contexts settled general s renames given us c i (k c q) other g goes (ask other c a))
       h
 
-  module _ (us vs : List ℕ) (bindings bs : List Binding) (is : n ≡ node.Val us bindings) (same : vs ≡ us) (alike : bs ≡ bindings) where
-    val_is : n ≡ node.Val vs bs
-    val_is = is ∙ ap (λ (ws : List ℕ). node.Val ws bindings) (sym same) ∙ ap (node.Val vs) (sym alike)
-
-    pub val_ends : IfOk result (λ _. Here (λ c. AllByRecursion (λ b. IsGeneralised p known f general c b.right (names b.pat)) bs)) → IfOk result (λ _. Here (λ c. IsDeclaredWell p known m f c vs (names i))) → Ends
+  module _ (us : List ℕ) (bindings : List Binding) (is : n ≡ node.Val us bindings) where
+    pub val_ends : IfOk result (λ _. Here (λ c. AllByRecursion (λ b. IsGeneralised p known f general c b.right (names b.pat)) bindings)) → IfOk result (λ _. Here (λ c. IsDeclaredWell p known m f c us (names i))) → Ends
     val_ends h k =
-        both_of (Here (λ c. AllByRecursion (λ b. IsGeneralised p known f general c b.right (names b.pat)) bs)) (Here (λ c. IsDeclaredWell p known m f c vs (names i))) (IsNoTypeDeclaration n → Here (λ c. IsFinished p t c i n)) result
-        (λ a b none c q. subst (λ (l : Node). IsFinished p t c i l) (sym val_is) (
-          bindings_finished p d contexts settled general s renames given c bs (a c q),
-          explicit_finished p d contexts settled general s renames given c vs (names i) (b c q),
-          names_known p d contexts settled general s renames given c vs (names i) (b c q),
+        both_of (Here (λ c. AllByRecursion (λ b. IsGeneralised p known f general c b.right (names b.pat)) bindings)) (Here (λ c. IsDeclaredWell p known m f c us (names i))) (IsNoTypeDeclaration n → Here (λ c. IsFinished p t c i n)) result
+        (λ a b none c q. subst (λ (l : Node). IsFinished p t c i l) (sym is) (
+          bindings_finished p d contexts settled general s renames given c bindings (a c q),
+          explicit_finished p d contexts settled general s renames given c us (names i) (b c q),
+          names_known p d contexts settled general s renames given c us (names i) (b c q),
         ))
         h k
 
-    pub val_refuses : IsRefused result (Here (λ c. MayBeDeclared p known m f c vs (names i) → ⊥)) → Refuses
-    val_refuses h = refuses us vs same (λ other c a. subst (λ (l : Node). Asks p other c i l) is a) h
+    pub val_refuses : IsRefused result (Here (λ c. MayBeDeclared p known m f c us (names i) → ⊥)) → Refuses
+    val_refuses h = refuses us (λ other c a. subst (λ (l : Node). Asks p other c i l) is a) h
 
-  module _ (us vs : List ℕ) (bindings bs : List RecBinding) (is : n ≡ node.ValRec us bindings) (same : vs ≡ us) (alike : bs ≡ bindings) where
-    rec_is : n ≡ node.ValRec vs bs
-    rec_is = is ∙ ap (λ (ws : List ℕ). node.ValRec ws bindings) (sym same) ∙ ap (node.ValRec vs) (sym alike)
-
-    pub rec_ends : IfOk result (λ _. Here (λ c. AllByRecursion (λ b. IsGeneralised p known f general c b.right (b.name.0 ∷ [])) bs)) → IfOk result (λ _. Here (λ c. IsDeclaredWell p known m f c vs (names i))) → Ends
+  module _ (us : List ℕ) (bindings : List RecBinding) (is : n ≡ node.ValRec us bindings) where
+    pub rec_ends : IfOk result (λ _. Here (λ c. AllByRecursion (λ b. IsGeneralised p known f general c b.right (b.name.0 ∷ [])) bindings)) → IfOk result (λ _. Here (λ c. IsDeclaredWell p known m f c us (names i))) → Ends
     rec_ends h k =
-        both_of (Here (λ c. AllByRecursion (λ b. IsGeneralised p known f general c b.right (b.name.0 ∷ [])) bs)) (Here (λ c. IsDeclaredWell p known m f c vs (names i))) (IsNoTypeDeclaration n → Here (λ c. IsFinished p t c i n)) result
-        (λ a b none c q. subst (λ (l : Node). IsFinished p t c i l) (sym rec_is) (
-          group_finished p d contexts settled general s renames given c bs (a c q),
-          explicit_finished p d contexts settled general s renames given c vs (names i) (b c q),
-          names_known p d contexts settled general s renames given c vs (names i) (b c q),
+        both_of (Here (λ c. AllByRecursion (λ b. IsGeneralised p known f general c b.right (b.name.0 ∷ [])) bindings)) (Here (λ c. IsDeclaredWell p known m f c us (names i))) (IsNoTypeDeclaration n → Here (λ c. IsFinished p t c i n)) result
+        (λ a b none c q. subst (λ (l : Node). IsFinished p t c i l) (sym is) (
+          group_finished p d contexts settled general s renames given c bindings (a c q),
+          explicit_finished p d contexts settled general s renames given c us (names i) (b c q),
+          names_known p d contexts settled general s renames given c us (names i) (b c q),
         ))
         h k
 
-    pub rec_refuses : IsRefused result (Here (λ c. MayBeDeclared p known m f c vs (names i) → ⊥)) → Refuses
-    rec_refuses h = refuses us vs same (λ other c a. subst (λ (l : Node). Asks p other c i l) is a) h
+    pub rec_refuses : IsRefused result (Here (λ c. MayBeDeclared p known m f c us (names i) → ⊥)) → Refuses
+    rec_refuses h = refuses us (λ other c a. subst (λ (l : Node). Asks p other c i l) is a) h

@@ -55,7 +55,7 @@ fn check_rules(
     settled: &[Option<Settled>],
     unknowns: &Unknowns,
     node: u32,
-    rules: &[Rule],
+    rules: &Row<Rule>,
 ) -> Result<(), Failure>
     requires numbered { IsNumbered bare.now.nodes }
     requires bindings { AreBindings unknowns.now.types unknowns.now.subst.bound }
@@ -63,7 +63,8 @@ fn check_rules(
     ensures finished { IfOk result (λ _. (c : Context) → contexts_of scopes.now node ≡ Some c → AllByRecursion (λ r. AreMatchedNames bare.now (settled_at unknowns.now.types settled.now) (meaning unknowns.now) c (names_bound bare.now.nodes r.pat)) rules.now) }
     ensures refused { IsRefused result ((c : Context) → contexts_of scopes.now node ≡ Some c → AllByRecursion (λ r. AllByRecursion (IsKnownIfNamed bare.now (meaning unknowns.now) c) (names_bound bare.now.nodes r.pat)) rules.now → ⊥) }
 {
-    verdict(are_matched(alloc, bare, starts, scopes, settled, unknowns, node, rules))
+    let all = rules.items();
+    verdict(are_matched(alloc, bare, starts, scopes, settled, unknowns, node, all))
 }
 
 // The type of an expression behind a declaration.
@@ -111,8 +112,8 @@ fn check_values(
     unknowns: &Unknowns,
     renames: &[Rename],
     node: u32,
-    tyvars: &[u32],
-    bindings: &[Binding],
+    tyvars: &Row<u32>,
+    bindings: &Row<Binding>,
 ) -> Result<(), Failure>
     requires numbered { IsNumbered bare.now.nodes }
     requires bindings { AreBindings unknowns.now.types unknowns.now.subst.bound }
@@ -124,11 +125,13 @@ fn check_values(
     ensures declared { IfOk result (λ _. (c : Context) → contexts_of scopes.now node ≡ Some c → IsDeclaredWell bare.now (settled_at unknowns.now.types settled.now) (meaning unknowns.now) (ending unknowns.now renames.now) c tyvars.now (names_bound bare.now.nodes node)) }
     ensures refused { IsRefused result ((c : Context) → contexts_of scopes.now node ≡ Some c → MayBeDeclared bare.now (settled_at unknowns.now.types settled.now) (meaning unknowns.now) (ending unknowns.now renames.now) c tyvars.now (names_bound bare.now.nodes node) → ⊥) }
 {
+    let explicit = tyvars.items();
+    let all = bindings.items();
     match check_bindings(
-        alloc, bare, starts, scopes, plain, settled, general, unknowns, renames, node, bindings,
+        alloc, bare, starts, scopes, plain, settled, general, unknowns, renames, node, all,
     ) {
         Ok(()) => verdict(is_declared_well(
-            alloc, bare, starts, scopes, settled, unknowns, renames, node, tyvars,
+            alloc, bare, starts, scopes, settled, unknowns, renames, node, explicit,
         )),
         Err(_) => Err(Failure::NoMemory),
     }
@@ -146,8 +149,8 @@ fn check_group(
     unknowns: &Unknowns,
     renames: &[Rename],
     node: u32,
-    tyvars: &[u32],
-    bindings: &[RecBinding],
+    tyvars: &Row<u32>,
+    bindings: &Row<RecBinding>,
 ) -> Result<(), Failure>
     requires numbered { IsNumbered bare.now.nodes }
     requires bindings { AreBindings unknowns.now.types unknowns.now.subst.bound }
@@ -159,11 +162,13 @@ fn check_group(
     ensures declared { IfOk result (λ _. (c : Context) → contexts_of scopes.now node ≡ Some c → IsDeclaredWell bare.now (settled_at unknowns.now.types settled.now) (meaning unknowns.now) (ending unknowns.now renames.now) c tyvars.now (names_bound bare.now.nodes node)) }
     ensures refused { IsRefused result ((c : Context) → contexts_of scopes.now node ≡ Some c → MayBeDeclared bare.now (settled_at unknowns.now.types settled.now) (meaning unknowns.now) (ending unknowns.now renames.now) c tyvars.now (names_bound bare.now.nodes node) → ⊥) }
 {
+    let explicit = tyvars.items();
+    let all = bindings.items();
     match check_rec_bindings(
-        alloc, bare, starts, scopes, plain, settled, general, unknowns, renames, node, bindings,
+        alloc, bare, starts, scopes, plain, settled, general, unknowns, renames, node, all,
     ) {
         Ok(()) => verdict(is_declared_well(
-            alloc, bare, starts, scopes, settled, unknowns, renames, node, tyvars,
+            alloc, bare, starts, scopes, settled, unknowns, renames, node, explicit,
         )),
         Err(_) => Err(Failure::NoMemory),
     }
@@ -194,63 +199,20 @@ fn check_form(
     let starts = &declared.starts;
     match form {
         Node::Case(_, rules) => check_rules(
-            alloc,
-            bare,
-            starts,
-            scopes,
-            settled,
-            unknowns,
-            node,
-            rules.items(),
+            alloc, bare, starts, scopes, settled, unknowns, node, rules,
         ),
-        Node::Fn(rules) => check_rules(
-            alloc,
-            bare,
-            starts,
-            scopes,
-            settled,
-            unknowns,
-            node,
-            rules.items(),
-        ),
+        Node::Fn(rules) => check_rules(alloc, bare, starts, scopes, settled, unknowns, node, rules),
         Node::Handle(_, rules) => check_rules(
-            alloc,
-            bare,
-            starts,
-            scopes,
-            settled,
-            unknowns,
-            node,
-            rules.items(),
+            alloc, bare, starts, scopes, settled, unknowns, node, rules,
         ),
         Node::Let(_, _) => check_let(alloc, bare, starts, scopes, unknowns, node),
         Node::Val(tyvars, bindings) => check_values(
-            alloc,
-            bare,
-            starts,
-            scopes,
-            plain,
-            settled,
-            general,
-            unknowns,
-            renames,
-            node,
-            tyvars.items(),
-            bindings.items(),
+            alloc, bare, starts, scopes, plain, settled, general, unknowns, renames, node, tyvars,
+            bindings,
         ),
         Node::ValRec(tyvars, bindings) => check_group(
-            alloc,
-            bare,
-            starts,
-            scopes,
-            plain,
-            settled,
-            general,
-            unknowns,
-            renames,
-            node,
-            tyvars.items(),
-            bindings.items(),
+            alloc, bare, starts, scopes, plain, settled, general, unknowns, renames, node, tyvars,
+            bindings,
         ),
         Node::Exception(name, _) => check_exception(settled, *name),
         Node::SameException(name, _) => check_exception(settled, *name),

@@ -5,37 +5,37 @@ use Rattle.infer_checks.proofs.node.check_form.Goals as goal
 
 pub returns-in-Case-clause-finished : goal.returns-in-Case-clause-finished
 returns-in-Case-clause-finished c =
-    rules_end c.args.bare.now c.args.declared.now (contexts_of c.args.scopes.now) c.args.settled.now c.args.general.now c.args.unknowns.now c.args.renames.now c.requires.given c.args.node c.args.form.now c.check_rules.result c.in-Case.rules c.items.result.now c.items.ensures
+    rules_end c.args.bare.now c.args.declared.now (contexts_of c.args.scopes.now) c.args.settled.now c.args.general.now c.args.unknowns.now c.args.renames.now c.requires.given c.args.node c.args.form.now c.check_rules.result c.in-Case.rules
     (λ around h. case_finished c.args.bare.now (ended c.args.bare.now c.args.declared.now (contexts_of c.args.scopes.now) c.args.settled.now c.args.general.now c.args.unknowns.now c.args.renames.now) around c.args.node c.args.form.now c.in-Case.field-0 c.in-Case.rules c.in-Case.is h)
     c.check_rules.ensures.finished
 
 pub returns-in-Case-clause-refused : goal.returns-in-Case-clause-refused
 returns-in-Case-clause-refused c =
-    rules_refuse c.args.bare.now c.args.declared.now (contexts_of c.args.scopes.now) c.args.settled.now c.args.general.now c.args.unknowns.now c.args.renames.now c.requires.given c.args.node c.args.form.now c.check_rules.result c.in-Case.rules c.items.result.now c.items.ensures
+    rules_refuse c.args.bare.now c.args.declared.now (contexts_of c.args.scopes.now) c.args.settled.now c.args.general.now c.args.unknowns.now c.args.renames.now c.requires.given c.args.node c.args.form.now c.check_rules.result c.in-Case.rules
     (λ other around a. case_asks c.args.bare.now other around c.args.node c.args.form.now c.in-Case.field-0 c.in-Case.rules c.in-Case.is a)
     c.check_rules.ensures.refused
 
 pub returns-in-Fn-clause-finished : goal.returns-in-Fn-clause-finished
 returns-in-Fn-clause-finished c =
-    rules_end c.args.bare.now c.args.declared.now (contexts_of c.args.scopes.now) c.args.settled.now c.args.general.now c.args.unknowns.now c.args.renames.now c.requires.given c.args.node c.args.form.now c.check_rules-in-Fn.result c.in-Fn.rules c.items-in-Fn.result.now c.items-in-Fn.ensures
+    rules_end c.args.bare.now c.args.declared.now (contexts_of c.args.scopes.now) c.args.settled.now c.args.general.now c.args.unknowns.now c.args.renames.now c.requires.given c.args.node c.args.form.now c.check_rules-in-Fn.result c.in-Fn.rules
     (λ around h. fn_finished c.args.bare.now (ended c.args.bare.now c.args.declared.now (contexts_of c.args.scopes.now) c.args.settled.now c.args.general.now c.args.unknowns.now c.args.renames.now) around c.args.node c.args.form.now c.in-Fn.rules c.in-Fn.is h)
     c.check_rules-in-Fn.ensures.finished
 
 pub returns-in-Fn-clause-refused : goal.returns-in-Fn-clause-refused
 returns-in-Fn-clause-refused c =
-    rules_refuse c.args.bare.now c.args.declared.now (contexts_of c.args.scopes.now) c.args.settled.now c.args.general.now c.args.unknowns.now c.args.renames.now c.requires.given c.args.node c.args.form.now c.check_rules-in-Fn.result c.in-Fn.rules c.items-in-Fn.result.now c.items-in-Fn.ensures
+    rules_refuse c.args.bare.now c.args.declared.now (contexts_of c.args.scopes.now) c.args.settled.now c.args.general.now c.args.unknowns.now c.args.renames.now c.requires.given c.args.node c.args.form.now c.check_rules-in-Fn.result c.in-Fn.rules
     (λ other around a. fn_asks c.args.bare.now other around c.args.node c.args.form.now c.in-Fn.rules c.in-Fn.is a)
     c.check_rules-in-Fn.ensures.refused
 
 pub returns-in-Handle-clause-finished : goal.returns-in-Handle-clause-finished
 returns-in-Handle-clause-finished c =
-    rules_end c.args.bare.now c.args.declared.now (contexts_of c.args.scopes.now) c.args.settled.now c.args.general.now c.args.unknowns.now c.args.renames.now c.requires.given c.args.node c.args.form.now c.check_rules-in-Handle.result c.in-Handle.rules c.items-in-Handle.result.now c.items-in-Handle.ensures
+    rules_end c.args.bare.now c.args.declared.now (contexts_of c.args.scopes.now) c.args.settled.now c.args.general.now c.args.unknowns.now c.args.renames.now c.requires.given c.args.node c.args.form.now c.check_rules-in-Handle.result c.in-Handle.rules
     (λ around h. handle_finished c.args.bare.now (ended c.args.bare.now c.args.declared.now (contexts_of c.args.scopes.now) c.args.settled.now c.args.general.now c.args.unknowns.now c.args.renames.now) around c.args.node c.args.form.now c.in-Handle.field-0 c.in-Handle.rules c.in-Handle.is h)
     c.check_rules-in-Handle.ensures.finished
 
 pub returns-in-Handle-clause-refused : goal.returns-in-Handle-clause-refused
 returns-in-Handle-clause-refused c =
-    rules_refuse c.args.bare.now c.args.declared.now (contexts_of c.args.scopes.now) c.args.settled.now c.args.general.now c.args.unknowns.now c.args.renames.now c.requires.given c.args.node c.args.form.now c.check_rules-in-Handle.result c.in-Handle.rules c.items-in-Handle.result.now c.items-in-Handle.ensures
+    rules_refuse c.args.bare.now c.args.declared.now (contexts_of c.args.scopes.now) c.args.settled.now c.args.general.now c.args.unknowns.now c.args.renames.now c.requires.given c.args.node c.args.form.now c.check_rules-in-Handle.result c.in-Handle.rules
     (λ other around a. handle_asks c.args.bare.now other around c.args.node c.args.form.now c.in-Handle.field-0 c.in-Handle.rules c.in-Handle.is a)
     c.check_rules-in-Handle.ensures.refused
 
@@ -49,19 +49,19 @@ returns-in-Let-clause-refused c =
 
 pub returns-in-Val-clause-finished : goal.returns-in-Val-clause-finished
 returns-in-Val-clause-finished c =
-    val_ends c.args.bare.now c.args.declared.now (contexts_of c.args.scopes.now) c.args.settled.now c.args.general.now c.args.unknowns.now c.args.renames.now c.requires.given c.args.node c.args.form.now c.check_values.result c.in-Val.tyvars c.items-in-Val.result.now c.in-Val.bindings c.items-in-Val-2.result.now c.in-Val.is c.items-in-Val.ensures c.items-in-Val-2.ensures c.check_values.ensures.general c.check_values.ensures.declared
+    val_ends c.args.bare.now c.args.declared.now (contexts_of c.args.scopes.now) c.args.settled.now c.args.general.now c.args.unknowns.now c.args.renames.now c.requires.given c.args.node c.args.form.now c.check_values.result c.in-Val.tyvars c.in-Val.bindings c.in-Val.is c.check_values.ensures.general c.check_values.ensures.declared
 
 pub returns-in-Val-clause-refused : goal.returns-in-Val-clause-refused
 returns-in-Val-clause-refused c =
-    val_refuses c.args.bare.now c.args.declared.now (contexts_of c.args.scopes.now) c.args.settled.now c.args.general.now c.args.unknowns.now c.args.renames.now c.requires.given c.args.node c.args.form.now c.check_values.result c.in-Val.tyvars c.items-in-Val.result.now c.in-Val.bindings c.items-in-Val-2.result.now c.in-Val.is c.items-in-Val.ensures c.items-in-Val-2.ensures c.check_values.ensures.refused
+    val_refuses c.args.bare.now c.args.declared.now (contexts_of c.args.scopes.now) c.args.settled.now c.args.general.now c.args.unknowns.now c.args.renames.now c.requires.given c.args.node c.args.form.now c.check_values.result c.in-Val.tyvars c.in-Val.bindings c.in-Val.is c.check_values.ensures.refused
 
 pub returns-in-ValRec-clause-finished : goal.returns-in-ValRec-clause-finished
 returns-in-ValRec-clause-finished c =
-    rec_ends c.args.bare.now c.args.declared.now (contexts_of c.args.scopes.now) c.args.settled.now c.args.general.now c.args.unknowns.now c.args.renames.now c.requires.given c.args.node c.args.form.now c.check_group.result c.in-ValRec.tyvars c.items-in-ValRec.result.now c.in-ValRec.bindings c.items-in-ValRec-2.result.now c.in-ValRec.is c.items-in-ValRec.ensures c.items-in-ValRec-2.ensures c.check_group.ensures.general c.check_group.ensures.declared
+    rec_ends c.args.bare.now c.args.declared.now (contexts_of c.args.scopes.now) c.args.settled.now c.args.general.now c.args.unknowns.now c.args.renames.now c.requires.given c.args.node c.args.form.now c.check_group.result c.in-ValRec.tyvars c.in-ValRec.bindings c.in-ValRec.is c.check_group.ensures.general c.check_group.ensures.declared
 
 pub returns-in-ValRec-clause-refused : goal.returns-in-ValRec-clause-refused
 returns-in-ValRec-clause-refused c =
-    rec_refuses c.args.bare.now c.args.declared.now (contexts_of c.args.scopes.now) c.args.settled.now c.args.general.now c.args.unknowns.now c.args.renames.now c.requires.given c.args.node c.args.form.now c.check_group.result c.in-ValRec.tyvars c.items-in-ValRec.result.now c.in-ValRec.bindings c.items-in-ValRec-2.result.now c.in-ValRec.is c.items-in-ValRec.ensures c.items-in-ValRec-2.ensures c.check_group.ensures.refused
+    rec_refuses c.args.bare.now c.args.declared.now (contexts_of c.args.scopes.now) c.args.settled.now c.args.general.now c.args.unknowns.now c.args.renames.now c.requires.given c.args.node c.args.form.now c.check_group.result c.in-ValRec.tyvars c.in-ValRec.bindings c.in-ValRec.is c.check_group.ensures.refused
 
 pub returns-in-Exception-clause-finished : goal.returns-in-Exception-clause-finished
 returns-in-Exception-clause-finished c =
