@@ -11,3 +11,8 @@ pub mod NodeFacts
 pub mod Mentions
 pub mod BoundFacts
 pub mod CheckedFacts
+pub mod NodeLaws
+pub mod AskedLaws
+pub mod ValueFacts
+pub mod Verdicts
+pub mod FormLaws

@@ -14,5 +14,6 @@ pub mod numbers;
 pub mod open;
 pub mod proper;
 pub mod surroundings;
+pub mod values;
 
 pub use checked::check;

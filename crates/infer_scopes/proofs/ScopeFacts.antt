@@ -44,6 +44,10 @@ context_is s i scope c q e = let is : contexts_of s i ≡ Some (standing s.cells
     some_eq : (x y : Context) → Some x ≡ Some y → x ≡ y
     some_eq x y e = cc
 
+-- a node with a scope has a context
+pub context_there : (s : Stored) (i : ℕ) (scope : Scope) → slice_get s.scopes i ≡ Some (Some scope) → (c : Context) × (contexts_of s i ≡ Some c)
+context_there s i scope q = ((standing s.cells scope).context, ap context_in (standing_is s i scope q))
+
 -- the unclosed names are bound
 pub unclosed_bound : (s : Stored) (i : ℕ) (scope : Scope) (c : Context) (v : List ℕ) → slice_get s.scopes i ≡ Some (Some scope) → IsScope s.cells scope → v ≡ chain s.cells scope.unclosed → contexts_of s i ≡ Some c → AllByRecursion (λ x. is_in c.names x ≡ true) v
 unclosed_bound s i scope c v q is e h =

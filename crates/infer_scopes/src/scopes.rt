@@ -389,6 +389,16 @@ impl Scopes {
         *self.scopes.items().get(node as usize)?
     }
 
+    /// Whether a node has a context.
+    pub fn has(&self, node: u32) -> bool
+        ensures { IsTrue result → (c : Context) × (contexts_of self.now node ≡ Some c) }
+    {
+        match self.scope(node) {
+            Some(_) => true,
+            None => false,
+        }
+    }
+
     /// Whether a node is a part of the recursive declaration of a name.
     pub fn is_own(&self, node: u32, name: Name) -> bool
         ensures { (c : Context) → contexts_of self.now node ≡ Some c → result ≡ is_in c.own name.0 }
