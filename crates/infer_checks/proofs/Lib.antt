@@ -9,3 +9,10 @@ pub mod KeptFacts
 pub mod AroundFacts
 pub mod NodeFacts
 pub mod Mentions
+pub mod BoundFacts
+pub mod CheckedFacts
+pub mod NodeLaws
+pub mod AskedLaws
+pub mod ValueFacts
+pub mod Verdicts
+pub mod FormLaws

@@ -1,6 +1,6 @@
 -- Lists that are gone through.
-use Rattle.std.proofs.Common.{ℕ, zero, suc, ◌+◌, ◌<◌, ◌≤◌, List, [], ◌∷◌, ◌++◌, length, take, sym, subst, arith}
-use Rattle.std.specs.Prelude.{get_or}
+use Rattle.std.proofs.Common.{◌≡◌, ℕ, zero, suc, ◌+◌, ◌<◌, ◌≤◌, List, [], ◌∷◌, ◌++◌, length, take, Some, refl, sym, subst, arith}
+use Rattle.std.specs.Prelude.{get_or, slice_get}
 use Rattle.std.specs.List.{AllByRecursion}
 use Rattle.std.proofs.lemmas.List.{take_more}
 
@@ -23,3 +23,9 @@ pub all_whole : {A : Type 0} (P : A → Type 0) (xs : List A) (i : ℕ) → leng
 all_whole P [] i l h = tt
 all_whole P (x ∷ xs) zero l h = absurd (omega arith)
 all_whole P (x ∷ xs) (suc i) l h = (h.0, all_whole P xs i (omega arith) h.1)
+
+-- the item at a number that is there
+pub get_there : {A : Type 0} (xs : List A) (i : ℕ) (d : A) → i < length xs → slice_get xs i ≡ Some (get_or xs i d)
+get_there [] i d l = absurd (omega arith)
+get_there (x ∷ xs) zero d l = refl
+get_there (x ∷ xs) (suc i) d l = get_there xs i d (omega arith)

@@ -37,7 +37,7 @@ module _ (p : Bare) (known : ℕ → Option Poly) (m f : Substitution) (renames 
     are_known c xs h.1,
   )
 
-  has_vars : (x : ℕ) (vs : List TyVar) (o : Option Poly) → HasVars vs o → (scheme_under f o (f (name_var p x))).vars ≡ map (λ v. var_at v (f v)) vs
+  pub has_vars : (x : ℕ) (vs : List TyVar) (o : Option Poly) → HasVars vs o → (scheme_under f o (f (name_var p x))).vars ≡ map (λ v. var_at v (f v)) vs
   has_vars x vs None h = absurd h
   has_vars x vs (Some q) h = ap (map (λ v. var_at v (f v))) h
 

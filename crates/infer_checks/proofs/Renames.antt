@@ -31,6 +31,11 @@ pub all_from_get : {A : Type 0} (P : A → Type 0) (xs : List A) → ((i : ℕ) 
 all_from_get P [] h = tt
 all_from_get P (x ∷ xs) h = (h zero x refl, all_from_get P xs (λ i y e. h (suc i) y e))
 
+pub at_get : {A : Type 0} (P : A → Type 0) (xs : List A) (i : ℕ) (x : A) → AllByRecursion P xs → slice_get xs i ≡ Some x → P x
+at_get P [] i x h e = cc
+at_get P (y ∷ xs) zero x h e = let same : y ≡ x = cc in subst P same h.0
+at_get P (y ∷ xs) (suc i) x h e = at_get P xs i x h.1 e
+
 pub record IsAt {A : Type 0} (xs : List A) (i : ℕ) : Type 0 where
   pub item : A
   pub is : slice_get xs i ≡ Some item
@@ -155,33 +160,32 @@ module _ (p : Bare) (s : Unknowns) (starts : Starts) (renames : List Rename) (fo
         vars_keep names NoParts h = tt
         vars_keep names (Part t ts) h = (vars_keep names t h.0, vars_keep names ts h.1)
 
-    -- ---- What other solutions make of what comes in the place of explicit type variables
+  -- ---- What other solutions make of what comes in the place of explicit type variables
 
-    module _ (g : Substitution) (solves : Solves s.types s.subst.bound g) (stay : (u : ℕ) → u < length p.tyvars → g (explicit p.tyvars u) ≡ Variable (explicit p.tyvars u)) where
-      led_back : (w : TyVar) → IsFormVar s.types w → (u : ℕ) → u < length p.tyvars → occurs u (ren w) ≡ true → g w ≡ Variable (explicit p.tyvars u)
-      led_back w k u l e = by (hit renames w.num) refl (eqb-true u (renamed_as w (led_to (hit renames w.num))).num e)
-        where
-          by : (o : Option Rename) → hit renames w.num ≡ o → u ≡ (renamed_as w (led_to o)).num → g w ≡ Variable (explicit p.tyvars u)
-          by None z n = ap g (one_var w (explicit p.tyvars u) k (explicit_known u l) (sym n)) ∙ stay u l
-          by (Some r) z n =
-              let h = one_found renames w.num r z in
-              let q = found.each h.at r h.is in
-              let few = there h.at r h.is in
-              let number : u ≡ h.at = n ∙ ap (λ (v : TyVar). v.num) q.to in
-              let same = one_var q.var w (var_known h.at q.var few q.stands) k (q.number ∙ h.number) in
-              ap g (sym same)
-              ∙ sym (meant_through s.types s.subst.bound solved g solves (explicit p.tyvars h.at) (explicit_known h.at few) ∙ ap (inst g) q.stands)
-              ∙ stay h.at few
-              ∙ ap (λ k. Variable (explicit p.tyvars k)) (sym number)
+  module _ (all : AllByRecursion (IsForExplicit p s.types s.subst.bound) renames) (g : Substitution) (solves : Solves s.types s.subst.bound g) (stay : (u : ℕ) → u < length p.tyvars → g (explicit p.tyvars u) ≡ Variable (explicit p.tyvars u)) where
+    led_back : (w : TyVar) → IsFormVar s.types w → (u : ℕ) → u < length p.tyvars → occurs u (ren w) ≡ true → g w ≡ Variable (explicit p.tyvars u)
+    led_back w k u l e = by (hit renames w.num) refl (eqb-true u (renamed_as w (led_to (hit renames w.num))).num e)
+      where
+        by : (o : Option Rename) → hit renames w.num ≡ o → u ≡ (renamed_as w (led_to o)).num → g w ≡ Variable (explicit p.tyvars u)
+        by None z n = ap g (one_var w (explicit p.tyvars u) k (explicit_known u l) (sym n)) ∙ stay u l
+        by (Some r) z n =
+            let h = one_found renames w.num r z in
+            let q = at_get (IsForExplicit p s.types s.subst.bound) renames h.at r all h.is in
+            let number : u ≡ q.number = n ∙ ap (λ (v : TyVar). v.num) q.to in
+            let same = one_var q.from w (var_known q.number q.from q.there q.stands) k (q.is ∙ h.number) in
+            ap g (sym same)
+            ∙ sym (meant_through s.types s.subst.bound solved g solves (explicit p.tyvars q.number) (explicit_known q.number q.there) ∙ ap (inst g) q.stands)
+            ∙ stay q.number q.there
+            ∙ ap (λ k. Variable (explicit p.tyvars k)) (sym number)
 
-      -- where an explicit type variable stands in the end, it stands in each solution that leaves these variables
-      pub stands_still : (v : TyVar) → IsFormVar s.types v → (u : ℕ) → u < length p.tyvars → occurs u (f v) ≡ true → occurs u (g v) ≡ true
-      stands_still v k u l e =
-          let r = standing_in ren u (m v) e in
-          let known = at_standing (IsFormVar s.types) (m v) r.0 (meant_known s.types s.subst.bound solved v k) r.1 in
-          let is = led_back r.0 known u l r.2 in
-          ap (occurs u) (meant_through s.types s.subst.bound solved g solves v k)
-          ∙ occurs_through g u r.0 (m v) r.1 (ap (occurs u) is ∙ eq-eqb u u refl)
+    -- where an explicit type variable stands in the end, it stands in each solution that leaves these variables
+    pub stands_still : (v : TyVar) → IsFormVar s.types v → (u : ℕ) → u < length p.tyvars → occurs u (f v) ≡ true → occurs u (g v) ≡ true
+    stands_still v k u l e =
+        let r = standing_in ren u (m v) e in
+        let known = at_standing (IsFormVar s.types) (m v) r.0 (meant_known s.types s.subst.bound solved v k) r.1 in
+        let is = led_back r.0 known u l r.2 in
+        ap (occurs u) (meant_through s.types s.subst.bound solved g solves v k)
+        ∙ occurs_through g u r.0 (m v) r.1 (ap (occurs u) is ∙ eq-eqb u u refl)
 
   -- a typing's solution leaves each explicit type variable one variable of its own
   pub solution_owns : (names : List TypeName) (g : Substitution) → IsState names s → IsSolution names s g → ((u : ℕ) → u < length p.tyvars → g (explicit p.tyvars u) ≡ Variable (explicit p.tyvars u)) → AreOwn p m

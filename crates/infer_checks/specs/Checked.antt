@@ -56,6 +56,18 @@ module _ (p : Bare) (d : Declared) (contexts : ℕ → Option Context) (settled 
   abbrev pub ended : List Rename → Typing
   ended renames = typing_of p s.types d.tables.names d.abbreviations contexts known (generals general) (ending s renames)
 
+  -- what stands of the renames before the nodes are looked at
+  pub record AreEnding (renames : List Rename) : Type 0 where
+    pub solution : IsSolution d.tables.names s (ending s renames)
+    pub explicit_ones : (u : ℕ) → u < length p.tyvars → ending s renames (explicit p.tyvars u) ≡ Variable (explicit p.tyvars u)
+    pub renames_agree : AreRenames s.types renames
+    pub for_explicit : AllByRecursion (IsForExplicit p s.types s.subst.bound) renames
+    pub proper : (x : ℕ) (q : Poly) → known x ≡ Some q → IsProper (ending s renames) q
+
+  -- the nodes below a number have what they need
+  abbrev pub AreFinishedBelow : List Rename → ℕ → Type 0
+  AreFinishedBelow renames count = (i : ℕ) (n : Node) (c : Context) → i < count → slice_get p.nodes i ≡ Some n → IsNoTypeDeclaration n → contexts i ≡ Some c → IsFinished p (ended renames) c i n
+
   -- what stands in the end is a solution that leaves the explicit type variables as they are, each settled scheme has different variables of its own, and the nodes below a number have what they need
   pub record IsChecked (count : ℕ) (renames : List Rename) : Type 0 where
     pub solution : IsSolution d.tables.names s (ending s renames)
@@ -64,7 +76,7 @@ module _ (p : Bare) (d : Declared) (contexts : ℕ → Option Context) (settled 
     pub for_explicit : AllByRecursion (IsForExplicit p s.types s.subst.bound) renames
     pub proper : (x : ℕ) (q : Poly) → known x ≡ Some q → IsProper (ending s renames) q
     pub settled_names : AreSettledBelow p count known
-    pub finished : (i : ℕ) (n : Node) (c : Context) → i < count → slice_get p.nodes i ≡ Some n → IsNoTypeDeclaration n → contexts i ≡ Some c → IsFinished p (ended renames) c i n
+    pub finished : AreFinishedBelow renames count
 
   -- no typing of the nodes below a number has a solution that goes with what is settled
   abbrev pub IsUnchecked : ℕ → Type 0

@@ -1,2 +1,4 @@
 pub mod Ending
 pub mod Checked
+pub mod Bound
+pub mod Node

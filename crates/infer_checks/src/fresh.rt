@@ -53,8 +53,8 @@ pub(crate) fn are_new(
     Ok(are_kept(unknowns, renames, &tyvars, vars))
 }
 
-// Whether explicit type variables stand in neither of these lists.
-fn are_outside(
+/// Whether explicit type variables stand in neither of these lists.
+pub(crate) fn are_outside(
     bare: &Bare,
     numbers: &[u32],
     others: &[u32],

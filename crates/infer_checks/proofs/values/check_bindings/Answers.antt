@@ -1,0 +1,14 @@
+use Rattle.sml_tree.specs.declared.bare.Binding.{Binding}
+use Rattle.infer_state.specs.Fits.{settled_at}
+use Rattle.infer_state.specs.Names.{names_bound}
+use Rattle.infer_checks.specs.Checked.{ending}
+use Rattle.infer_checks.specs.Node.{IsGeneralised}
+use Rattle.infer_checks.proofs.ListFacts.{all_take}
+use Rattle.infer_checks.proofs.values.check_bindings.Goals as goal
+
+pub bindings-preserved : goal.bindings-preserved
+bindings-preserved c around q =
+    let p = c.args.bare.now in
+    let u = c.args.unknowns.now in
+    let none : Binding = record { pat = 0; right = 0 } in
+    all_take (λ b. IsGeneralised p (settled_at u.types c.args.settled.now) (ending u c.args.renames.now) c.args.general.now around b.right (names_bound p.nodes b.pat)) c.args.bindings.now c.bindings.binding-index none c.bindings-test.true (c.bindings.invariant around q) (c.in_ok-check_binding.ensures around q)
