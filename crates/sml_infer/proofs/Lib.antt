@@ -6,6 +6,9 @@ mod Lawful
 mod Going
 mod Asking
 mod Starting
+mod Keeping
+mod NextNode
+mod Citing
 mod Ended
 mod Searched
 mod Naming

@@ -1,15 +1,17 @@
 -- What holds while inference goes over the nodes.
-use Rattle.std.specs.Prelude.{◌≡◌, ℕ, ◌<◌, true, Option, Some, None, List, slice_get}
+use Rattle.std.specs.Prelude.{◌≡◌, ℕ, ◌<◌, true, Option, Some, None, List, length, slice_get}
 use Rattle.std.specs.List.{AllByRecursion}
 use Rattle.sml_tree.specs.declared.bare.Bare.{Bare}
 use Rattle.sml_tree.specs.declared.bare.Node.{Node}
 use Rattle.sml_tree.specs.declared.bare.Node.TheVariants.{Let}
+use Rattle.sml_tree.specs.declared.bare.TypeExp.TheVariants as exp
 use Rattle.sml_types.specs.Forms.{AreForms}
 use Rattle.sml_types.specs.Poly.{Context}
 use Rattle.sml_types.specs.Typing.{Typing, IsTypingBelow}
 use Rattle.infer_state.specs.declared.declared.Declared.{Declared}
 use Rattle.infer_state.specs.declared.settled.Settled.{Settled}
 use Rattle.infer_state.specs.declared.unknowns.Unknowns.{Unknowns}
+use Rattle.sml_unify.specs.Steps.{IsLonger}
 use Rattle.infer_state.specs.Variables.{AreLaidOut}
 use Rattle.infer_state.specs.Steps.{IsState}
 use Rattle.infer_state.specs.Names.{behind, parts_in, names_bound}
@@ -84,6 +86,17 @@ pub record IsEntered (p : Bare) (w : Now) (node : ℕ) : Type 0 where
   pub there : slice_get p.nodes node ≡ Some at
   pub here : contexts_of w.scopes node ≡ Some context
   pub parts : AllByRecursion (λ x. contexts_of w.scopes x.node ≡ Some x.context) (parts_in p.nodes context at)
+
+-- what stays from one time to a later one: the forms, the contexts, and how many names and nodes there are
+pub record Keeps (a b : Now) : Type 0 where
+  pub longer : IsLonger a.unknowns.types b.unknowns.types
+  pub contexts : (i : ℕ) (c : Context) → contexts_of a.scopes i ≡ Some c → contexts_of b.scopes i ≡ Some c
+  pub settled : length b.settled ≡ length a.settled
+  pub behind : length b.behind ≡ length a.behind
+
+-- the written types below a number cite type bindings that are declared
+abbrev pub CitesBelow : Bare → Declared → ℕ → Type 0
+CitesBelow p d limit = (i k : ℕ) (args : List ℕ) → i < limit → slice_get p.types i ≡ Some (exp.Abbreviation k args) → k < length d.abbreviations
 
 -- ---- What the laws of contexts say of typings
 
