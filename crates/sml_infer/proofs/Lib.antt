@@ -9,6 +9,9 @@ mod Starting
 mod Keeping
 mod NextNode
 mod Citing
+mod StartFacts
+mod PassFacts
+mod PrefixFacts
 mod Ended
 mod Searched
 mod Naming

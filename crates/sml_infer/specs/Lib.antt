@@ -2,6 +2,7 @@ pub mod Stages
 pub mod Going
 pub mod Asking
 pub mod Cited
+pub mod Begun
 pub mod Typing
 pub mod Below
 pub mod Search

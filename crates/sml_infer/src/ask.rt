@@ -66,8 +66,8 @@ fn names_there(bare: &Bare, at: &Node) -> bool
     }
 }
 
-// Whether the written types that a node has are below a number.
-fn types_there(limit: u32, at: &Node) -> bool
+/// Whether the written types that a node has are below a number.
+pub(crate) fn types_there(limit: u32, at: &Node) -> bool
     ensures { IsTrue result → AllByRecursion (λ j. j < limit) (node_types at.now) }
 {
     match at {

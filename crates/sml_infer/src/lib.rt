@@ -8,10 +8,12 @@ mod below;
 mod cited;
 pub mod inference;
 mod note;
+mod passes;
 mod prefix;
 mod ready;
 mod schemes;
 mod search;
+mod start;
 mod turn;
 pub mod typing;
 
