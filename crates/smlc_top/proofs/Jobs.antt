@@ -4,24 +4,28 @@ use Rattle.std.specs.declared.vec.Vec.{Vec}
 use Rattle.std.specs.declared.alloc.Global.{Global}
 use Rattle.smlc_base.specs.declared.refusal.Refusal.{Refusal}
 use Rattle.smlc_edge.specs.declared.edge.Failed.{Failed}
-use Rattle.smlc_edge.specs.Edge.{Files, Saves}
+use Rattle.smlc_edge.specs.Edge.{Files, Saves, Fails}
+use Rattle.smlc_edge.proofs.Gained.{gains_none}
 use Rattle.elf_static.specs.declared.image.Image.{Image}
 use Rattle.elf_static.specs.Reading.{meaning_of}
 use Rattle.rv_machine.specs.Run.{Mend, Runs, Exited, Trapped}
 use Rattle.smlc_words.specs.Given.{Given}
-use Rattle.smlc_words.specs.Asks.{Asked, Asks, IsFor, Run, Compile, Exec}
+use Rattle.smlc_words.specs.Asks.{Asked, Asks, IsFor, Run, Compile, Exec, Types}
 use Rattle.smlc_words.proofs.Once.{asks_once}
 use Rattle.smlc_top.specs.declared.outcome.Outcome.{Outcome}
 use Rattle.smlc_top.specs.declared.outcome.Outcome.TheVariants as outcome
 use Rattle.std.specs.Prelude.{IfSome, IfNone, None}
 use Rattle.smlc_top.specs.declared.job.Job.{Job as Held}
-use Rattle.smlc_top.specs.Job.{Job, job_of, RunFiles, CompileFiles, ExecFile, IsAsked, Allows, files_of}
+use Rattle.smlc_top.specs.Job.{Job, job_of, RunFiles, CompileFiles, ExecFile, TypesFiles, IsAsked, Allows, files_of}
 use Rattle.smlc_top.specs.Outcome.{ended_outcome}
 use Rattle.smlc_top.specs.Texts.{refused_line}
+use Rattle.smlc_top.specs.Front.{IsUntyped}
+use Rattle.smlc_top.specs.Types.{Shows}
+use Rattle.smlc_top.specs.Write.{Whole}
 use Rattle.smlc_top.specs.Build.{IsElfOf}
 use Rattle.smlc_top.specs.Execute.{RanImage, exited, went_on, trapped, had_no_memory, input_fault, out_fault, err_fault, Executed, of_image, not_read, read_memory}
 use Rattle.smlc_top.specs.Held.{IsHeld, AreHeld, KeepsFiles, ChangesOnly, HasSaved}
-use Rattle.smlc_top.specs.Clause.{Means, IsRefused, Compiles, Tally, IsSame, IsRun, IsMidway, Comes, ran, stopped, run_refused, compile_refused, exec_exited, exec_stopped, exec_trapped, exec_not_elf, Midway, running, executing, Performed, fine, want, read_failed, write_failed, error_failed}
+use Rattle.smlc_top.specs.Clause.{Means, IsRefused, Compiles, Tally, IsSame, IsRun, IsMidway, Came, tally, Comes, ran, stopped, run_refused, compile_refused, exec_exited, exec_stopped, exec_trapped, exec_not_elf, Midway, running, executing, in_run, in_types, typed, types_refused, Performed, fine, want, read_failed, write_failed, error_failed}
 use Rattle.smlc_top.proofs.Ends.{Concludes, prints_concludes}
 
 -- ---- what the words ask
@@ -47,6 +51,7 @@ few_files : (name : List ℕ) (g : Given) (a : Asked) (job : Job) → IsFor name
 few_files name g (Run files None given) (RunFiles names steps) h allows = let few = h.1.1 in omega (arith, ap length allows.0, few)
 few_files name g (Compile files out None) (CompileFiles names target) h allows = let few = h.1.1 in omega (arith, ap length allows.0, few)
 few_files name g (Exec elf given) (ExecFile n steps) h allows = omega arith
+few_files name g (Types files) (TypesFiles names) h allows = let few = h.1.1 in omega (arith, ap length allows, few)
 few_files name g a job h allows = absurd allows
 
 few_asks : (words : List (List ℕ)) (a : Asked) (job : Job) → Asks words a → Allows a job → length (files_of job) ≤ 256
@@ -86,7 +91,7 @@ module _ (names : List (List ℕ)) (told kept : Option Files) (steps : ℕ) (fil
   run_image _ (trapped pc word r same) = absurd (run_concludes text image input steps (Trapped pc word) w e compiles r)
   run_image _ (had_no_memory p q same) = want p q keeps same
   run_image _ (input_fault f m) = read_failed f (midway m) keeps
-  run_image _ (out_fault f m) = write_failed f (midway m) keeps
+  run_image _ (out_fault f m) = write_failed f (in_run (RunFiles names steps) (midway m)) keeps
   run_image _ (err_fault f m) = error_failed f (midway m) keeps
 
 pub run_executed : (names : List (List ℕ)) (told kept : Option Files) (steps : ℕ) (files : List (List ℕ)) (text bytes : List ℕ) (t t' : Tally) (input : Option (List ℕ)) (w e : List ℕ) (o : Outcome) → AreHeld told names files → KeepsFiles told kept →
@@ -108,7 +113,7 @@ module _ (name : List ℕ) (told files : Option Files) (steps : ℕ) (file : Lis
   exec_image _ (trapped pc word r same) = fine (outcome.Trapped pc word) (exec_trapped name steps file image pc word held read r keeps) same
   exec_image _ (had_no_memory p q same) = want p q keeps same
   exec_image _ (input_fault f m) = read_failed f (executing name steps file image held read m) keeps
-  exec_image _ (out_fault f m) = write_failed f (executing name steps file image held read m) keeps
+  exec_image _ (out_fault f m) = write_failed f (in_run (ExecFile name steps) (executing name steps file image held read m)) keeps
   exec_image _ (err_fault f m) = error_failed f (executing name steps file image held read m) keeps
 
 pub exec_executed : (name : List ℕ) (told files : Option Files) (steps : ℕ) (file : List ℕ) (t t' : Tally) (input : Option (List ℕ)) (w e : List ℕ) (o : Outcome) → IsHeld told name file → KeepsFiles told files →
@@ -137,3 +142,33 @@ pub compile_said : (names : List (List ℕ)) (target : List ℕ) (told kept : Op
     (refusal : Refusal) × IsRefused files refusal × (line.items ≡ refused_line names refusal) → IsSame t t' → Performed (CompileFiles names target) told kept t t' input [] [] (outcome.Refused line)
 compile_said names target told kept files line t t' input held keeps h same =
     fine (outcome.Refused line) (subst (λ (x : List ℕ). Comes told kept input [] [] (CompileFiles names target) x 2) (sym h.2) (compile_refused names files target h.0 held h.1 refl refl keeps)) same
+
+pub types_said : (names : List (List ℕ)) (told kept : Option Files) (files : List (List ℕ)) (line : Vec ℕ Global) (t t' : Tally) (input : Option (List ℕ)) → AreHeld told names files → KeepsFiles told kept →
+    (refusal : Refusal) × IsUntyped files refusal × (line.items ≡ refused_line names refusal) → IsSame t t' → Performed (TypesFiles names) told kept t t' input [] [] (outcome.Refused line)
+types_said names told kept files line t t' input held keeps h same =
+    fine (outcome.Refused line) (subst (λ (x : List ℕ). Comes told kept input [] [] (TypesFiles names) x 2) (sym h.2) (types_refused names files h.0 held h.1 refl refl keeps)) same
+
+-- ---- `types`
+
+module _ (names : List (List ℕ)) (told kept : Option Files) (files : List (List ℕ)) (text : List ℕ) (input : Option (List ℕ)) (i e store store' o o' : ℕ) (out out' err : Option (List ℕ))
+    (held : AreHeld told names files) (keeps : KeepsFiles told kept) (shows : Shows files text) where
+  abbrev After : Outcome → Type 0
+  After outcome = Came out out' err err (λ w m. Performed (TypesFiles names) told kept (tally store i o e) (tally store' i o' e) input w m outcome)
+
+  pub types_written : (u : Unit {0}) → Whole text (Ok u) out out' → store' ≡ store → o' ≡ o → After outcome.Done
+  types_written u w same counts = record {
+    wrote = w.wrote;
+    wrote_err = [];
+    gains = w.gains;
+    gains_err = gains_none err;
+    says = fine outcome.Done (typed names files held (subst (λ (x : List ℕ). Shows files x) (sym w.all) shows) refl keeps) (record { store = same; input = refl; out = counts; err = refl });
+  }
+
+  pub types_cut : (failed : Failed) → Whole text (Err failed) out out' → Fails o o' → After outcome.OutFault
+  types_cut failed w f = record {
+    wrote = w.wrote;
+    wrote_err = [];
+    gains = w.gains;
+    gains_err = gains_none err;
+    says = write_failed f.1 (in_types names files text held shows w.front refl) keeps;
+  }

@@ -6,6 +6,7 @@ use Rattle.smlc_base.specs.declared.refusal.Refusal.TheVariants.{NotInSubset}
 use Rattle.smlc_base.specs.declared.refusal.Banned.TheVariants.{Later}
 use Rattle.smlc_edge.specs.Edge.{Files, Rose, Fails, Gains}
 use Rattle.sml_tree.specs.declared.bare.Bare.{Bare}
+use Rattle.sml_types.specs.Typing.{IsTypable}
 use Rattle.elf_static.specs.declared.image.Image.{Image}
 use Rattle.elf_static.specs.declared.error.ElfKind.{ElfKind}
 use Rattle.elf_static.specs.declared.error.ElfError.TheVariants as elf
@@ -14,10 +15,11 @@ use Rattle.elf_static.specs.Table.{no_entries}
 use Rattle.rv_machine.specs.Run.{Cut, Mend, Runs, Exited, Trapped, behaviour}
 use Rattle.smlc_top.specs.declared.outcome.Outcome.{Outcome}
 use Rattle.smlc_top.specs.declared.outcome.Outcome.TheVariants as outcome
-use Rattle.smlc_top.specs.Front.{HasTree, IsRefusal}
+use Rattle.smlc_top.specs.Front.{HasTree, IsUntyped}
 use Rattle.smlc_top.specs.Plain.{Says, StopsAt}
+use Rattle.smlc_top.specs.Types.{Shows}
 use Rattle.smlc_top.specs.Held.{IsHeld, AreHeld, LoadsUpTo, KeepsFiles, ChangesOnly, HasSaved}
-use Rattle.smlc_top.specs.Job.{Job, RunFiles, CompileFiles, ExecFile, IsAsked, files_of, target_of}
+use Rattle.smlc_top.specs.Job.{Job, RunFiles, CompileFiles, ExecFile, TypesFiles, IsAsked, files_of, target_of}
 use Rattle.smlc_top.specs.Prints.{begun, Prints}
 use Rattle.smlc_top.specs.Texts.{name_at, plan_text, refused_line, usage_line, memory_line, store_line, input_line, out_line, steps_line, exit_line, elf_line, trap_line}
 use Rattle.smlc_top.specs.Write.{IsPrefix}
@@ -25,16 +27,17 @@ use Rattle.smlc_top.specs.Outcome.{line_of, status_of}
 
 -- ---- files
 
--- the files have a bare tree, and its declarations print this text
+-- the files have a bare tree, it has a typing, and its declarations print this text
 pub record Means (files : List (List ℕ)) (text : List ℕ) : Type 0 where
   pub bare : Bare
   pub tree : HasTree files bare
+  pub typable : IsTypable bare
   pub says : Says bare 0 text
 
--- With what files are refused: they have no bare tree, or there is a declaration in it that is no print.
+-- With what files are refused that are to be compiled: they have no typing, or there is a declaration that is no print.
 pub data IsRefused (files : List (List ℕ)) : Refusal → Type 0 where
-  by_front : (r : Refusal) → IsRefusal files r → IsRefused files r
-  later : (bare : Bare) (place : Place) → HasTree files bare → StopsAt bare 0 place → IsRefused files (NotInSubset place Later)
+  untyped : (r : Refusal) → IsUntyped files r → IsRefused files r
+  later : (bare : Bare) (place : Place) → HasTree files bare → IsTypable bare → StopsAt bare 0 place → IsRefused files (NotInSubset place Later)
 
 -- The image prints the text, and does at most 64 instructions for each of its bytes, and 64 more. It has no entries, and its plan says so much.
 pub record Compiles (text : List ℕ) (image : Image) : Type 0 where
@@ -104,12 +107,21 @@ pub data Comes (told now : Option Files) (input : Option (List ℕ)) (out merr :
       KeepsFiles told now → Comes told now input out merr (ExecFile name steps) (trap_line pc word) 9
   exec_not_elf : (name : List ℕ) (steps : ℕ) (file : List ℕ) (kind : ElfKind) (at : ℕ) → IsHeld told name file → meaning_of file ≡ Err (elf.NotElf kind at) →
       out ≡ [] → merr ≡ [] → KeepsFiles told now → Comes told now input out merr (ExecFile name steps) (elf_line kind at) 8
+  typed : (names files : List (List ℕ)) → AreHeld told names files → Shows files out →
+      merr ≡ [] → KeepsFiles told now → Comes told now input out merr (TypesFiles names) [] 0
+  types_refused : (names files : List (List ℕ)) (refusal : Refusal) → AreHeld told names files → IsUntyped files refusal →
+      out ≡ [] → merr ≡ [] → KeepsFiles told now → Comes told now input out merr (TypesFiles names) (refused_line names refusal) 2
 
 -- a run that was going on when a fault came, with what it had written
 pub data Midway (told : Option Files) (input : Option (List ℕ)) (out merr : List ℕ) : Job → Type 0 where
   running : (names : List (List ℕ)) (steps : ℕ) (files : List (List ℕ)) (text : List ℕ) (image : Image) → AreHeld told names files → Means files text → Compiles text image → IsMidway image input out merr →
       IsPrefix out text → merr ≡ [] → Midway told input out merr (RunFiles names steps)
   executing : (name : List ℕ) (steps : ℕ) (file : List ℕ) (image : Image) → IsHeld told name file → meaning_of file ≡ Ok image → IsMidway image input out merr → Midway told input out merr (ExecFile name steps)
+
+-- what was going on when a write on out failed: a run, or the text of types, of which a prefix was written
+pub data CutOff (told : Option Files) (input : Option (List ℕ)) (out merr : List ℕ) : Job → Type 0 where
+  in_run : (job : Job) → Midway told input out merr job → CutOff told input out merr job
+  in_types : (names files : List (List ℕ)) (text : List ℕ) → AreHeld told names files → Shows files text → IsPrefix out text → merr ≡ [] → CutOff told input out merr (TypesFiles names)
 
 -- what comes whatever the job, or without one
 pub data Plain (words : List (List ℕ)) : List ℕ → ℕ → Type 0 where
@@ -130,7 +142,7 @@ pub data Answers (words : List (List ℕ)) (told now : Option Files) (before aft
       Answers words told now before after input out err 5
   input_failed : (job : Job) (merr front : List ℕ) → IsAsked words job → Rose before.input after.input → Midway told input out merr job → KeepsFiles told now →
       IsPrefix front input_line → err ≡ merr ++ front → Answers words told now before after input out err 5
-  out_failed : (job : Job) (merr front : List ℕ) → IsAsked words job → Rose before.out after.out → Midway told input out merr job → KeepsFiles told now →
+  out_failed : (job : Job) (merr front : List ℕ) → IsAsked words job → Rose before.out after.out → CutOff told input out merr job → KeepsFiles told now →
       IsPrefix front out_line → err ≡ merr ++ front → Answers words told now before after input out err 5
   err_failed : (job : Job) → IsAsked words job → Rose before.err after.err → Midway told input out err job → KeepsFiles told now → Answers words told now before after input out err 5
   untold : (job : Job) (merr line front : List ℕ) (status : ℕ) → IsAsked words job → Rose before.err after.err → Comes told now input out merr job line status →
@@ -156,5 +168,5 @@ pub data Performed (job : Job) (told now : Option Files) (before after : Tally) 
   save_failed : (names : List (List ℕ)) (target : List ℕ) → job ≡ CompileFiles names target → Fails before.store after.store → out ≡ [] → merr ≡ [] → ChangesOnly told now target →
       Performed job told now before after input out merr outcome.SaveFault
   read_failed : Fails before.input after.input → Midway told input out merr job → KeepsFiles told now → Performed job told now before after input out merr outcome.InputFault
-  write_failed : Rose before.out after.out → Midway told input out merr job → KeepsFiles told now → Performed job told now before after input out merr outcome.OutFault
+  write_failed : Rose before.out after.out → CutOff told input out merr job → KeepsFiles told now → Performed job told now before after input out merr outcome.OutFault
   error_failed : Fails before.err after.err → Midway told input out merr job → KeepsFiles told now → Performed job told now before after input out merr outcome.ErrFault

@@ -5,6 +5,7 @@ pub mod Reading
 pub mod Prints
 pub mod Texts
 pub mod Write
+pub mod Types
 pub mod Job
 pub mod Held
 pub mod Load

@@ -5,8 +5,8 @@ ghost use Rattle.smlc_top.specs.Build.{IsBuilt, IsMade, IsRefusal};
 ghost use Rattle.smlc_top.specs.Code.{IsStraight};
 
 use crate::code::{Printed, make};
-use crate::front::tree_of;
-use crate::outcome::{name_at, refusal_text};
+use crate::front::typed_of;
+use crate::outcome::refused_text;
 use crate::plain::{Reading, read};
 use elf_static::write_elf;
 use smlc_base::{Banned, CompileError, Refusal};
@@ -28,12 +28,12 @@ pub fn build(alloc: Global, names: &[&str], files: &[Vec<u8>]) -> Built
     requires { length files.now < 2 ^ 32 }
     ensures { IsBuilt (map (λ name. name.now) names.now) (map (λ f. f.items) files.now) result }
 {
-    let bare = match tree_of(alloc, files) {
-        Ok(bare) => bare,
+    let typed = match typed_of(alloc, files) {
+        Ok(typed) => typed,
         Err(CompileError::Refused(refusal)) => return refuse(alloc, names, refusal),
         Err(CompileError::NoMemory) => return Built::NoMemory,
     };
-    match read(alloc, &bare) {
+    match read(alloc, &typed.bare) {
         Ok(Reading::Stops(place)) => {
             refuse(alloc, names, Refusal::NotInSubset(place, Banned::Later))
         }
@@ -59,8 +59,7 @@ fn elf_of(alloc: Global, printed: Printed) -> Built
 fn refuse(alloc: Global, names: &[&str], refusal: Refusal) -> Built
     ensures { IsRefusal (map (λ name. name.now) names.now) refusal result }
 {
-    let file = refusal.place().file.saturating_sub(1);
-    match refusal_text(alloc, name_at(names, file as usize), &refusal) {
+    match refused_text(alloc, names, &refusal) {
         Ok(line) => Built::Refused(line),
         Err(_) => Built::NoMemory,
     }

@@ -30,6 +30,10 @@ pub enum Job<'a> {
         file: &'a str,
         steps: u64,
     },
+    /// Write the types of files' names.
+    Types {
+        files: Vec<&'a str>,
+    },
 }
 
 /// The job that the words ask for, if any.
@@ -67,6 +71,7 @@ fn allowed<'a>(command: Command<'a>) -> Option<Job<'a>>
             file: elf,
             steps: steps.unwrap_or(STEPS),
         }),
+        Command::Types { files } => Some(Job::Types { files }),
         _ => None,
     }
 }

@@ -1,7 +1,7 @@
-//! The command line: `run` and `compile` for programs of prints, and `exec` for ELF files.
+//! The command line: `types` for all programs, `run` and `compile` for programs of prints, and `exec` for ELF files.
 //!
-//! It stands on the front end, on the machine, on ELF files, on the words of the command line and on the outside. Its main contract:
-//! `smlc_main` answers each status exactly where its clause says, and what the program prints, and nothing else, is written on `out`.
+//! It stands on the front end, on type inference and the text of types, on the machine, on ELF files, on the words of the command line and on the outside. Its main contract:
+//! `smlc_main` answers each status exactly where its clause says, and what the program prints, or the text of its types, and nothing else, is written on `out`.
 #![tactic(auto)]
 
 pub mod build;
@@ -14,6 +14,7 @@ pub mod load;
 pub mod outcome;
 pub mod plain;
 pub mod top;
+pub mod types;
 pub mod write;
 
 pub use top::smlc_main;

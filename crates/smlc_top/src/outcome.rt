@@ -5,7 +5,7 @@ ghost use Rattle.std.specs.Fmt.{decimal};
 ghost use Rattle.std.specs.Int.{w32, w64, to_be_bytes};
 ghost use Rattle.hex.specs.Hex.{encode_lower};
 ghost use Rattle.elf_static.specs.Kinds.{word_of as word_of_kind};
-ghost use Rattle.smlc_top.specs.Texts.{name_at, place_text, banned_text, refusal_line, store_line, newline, elf_line, trap_line, steps_line, exit_line};
+ghost use Rattle.smlc_top.specs.Texts.{name_at, place_text, banned_text, refusal_line, refused_line, store_line, newline, elf_line, trap_line, steps_line, exit_line};
 ghost use Rattle.smlc_top.specs.Write.{Whole, Said};
 ghost use Rattle.smlc_top.specs.Outcome.{line_of, status_of};
 ghost use Rattle.smlc_edge.specs.Edge.{Counts};
@@ -140,8 +140,8 @@ fn word_digits(number: u32) -> [u8; 8]
     }
 }
 
-/// The line of a refusal of a file.
-pub fn refusal_text(alloc: Global, name: &str, refusal: &Refusal) -> Result<Vec<u8>, NoMemory>
+// The line of a refusal of a file.
+fn refusal_text(alloc: Global, name: &str, refusal: &Refusal) -> Result<Vec<u8>, NoMemory>
     ensures { IfOk result (λ text. text.items ≡ refusal_line name.now refusal.now) }
 {
     let number = refusal.number().to_string(alloc)?;
@@ -179,4 +179,13 @@ fn put_banned(text: &mut Vec<u8>, refusal: &Refusal) -> Result<(), NoMemory>
         text.extend_from_slice(banned.word().as_bytes())?;
     }
     Ok(())
+}
+
+/// The line of a refusal of the files of these names.
+pub fn refused_text(alloc: Global, names: &[&str], refusal: &Refusal) -> Result<Vec<u8>, NoMemory>
+    ensures { IfOk result (λ text. text.items ≡ refused_line (map (λ name. name.now) names.now) refusal.now) }
+{
+    let file = refusal.place().file.saturating_sub(1);
+    let name = name_at(names, file as usize);
+    refusal_text(alloc, name, refusal)
 }

@@ -382,7 +382,7 @@ fn words_that_are_no_command(rt: HostRuntime) -> Result<(), Fail> {
         &["smlc", "run", "f.sml", "--arena=2048"],
         &["smlc", "compile", "f.sml"],
         &["smlc", "run", "f.sml", "-o", "a"],
-        &["smlc", "types", "f.sml"],
+        &["smlc", "plan", "f.sml"],
     ];
     for case in cases {
         let mut store = MemStore::new(alloc, Vec::new(alloc));

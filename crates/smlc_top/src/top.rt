@@ -1,7 +1,7 @@
 //! The top call.
 
 ghost use Rattle.std.specs.Prelude.{◌≡◌, ◌≢◌, ◌≤◌, List, [], ℕ, Option, All, length, map, string_bytes, false};
-ghost use Rattle.smlc_top.specs.Job.{RunFiles, CompileFiles, ExecFile, IsAsked, Serves, files_of, job_of};
+ghost use Rattle.smlc_top.specs.Job.{RunFiles, CompileFiles, ExecFile, TypesFiles, IsAsked, Serves, files_of, job_of};
 ghost use Rattle.smlc_top.specs.Job.{Job as Wanted};
 ghost use Rattle.smlc_top.specs.Outcome.{is_fault, ended_outcome};
 ghost use Rattle.smlc_top.specs.Clause.{tally, Came, Answers, Performed};
@@ -11,15 +11,16 @@ use crate::execute::execute;
 use crate::job::{Job, find_job};
 use crate::load::{Loaded, load_all};
 use crate::outcome::{MEMORY, Outcome, USAGE, report};
-use crate::write::say;
+use crate::types::{Shown, show};
+use crate::write::{say, write_whole};
 use smlc_edge::{Sink, Source, Store, StoreError};
 use std::alloc::Global;
 
 /// Does what the words say, and answers the status.
 ///
 /// `run FILE.. [--steps N]` compiles a program of prints and runs it, `compile FILE.. -o OUT` saves what was made as an ELF file, and
-/// `exec ELF [--steps N]` runs any ELF file that keeps to the system calls of the machine.
-/// What the program prints goes to `out`, and the line of the status to `err`. The status is 0 where all was done, 2 where the files were refused,
+/// `exec ELF [--steps N]` runs any ELF file that keeps to the system calls of the machine. `types FILE..` writes the types of a program's names.
+/// What the program prints and the types go to `out`, and the line of the status to `err`. The status is 0 where all was done, 2 where the files were refused,
 /// 4 where so many instructions were done and the program goes on, 5 where the outside failed, 6 for want of memory, 7 where the words are no command,
 /// 8 where the file is no ELF file that can be run, and 9 where the machine has no step.
 pub fn smlc_main<F: Store, I: Source, O: Sink, E: Sink>(
@@ -77,6 +78,11 @@ fn do_job<F: Store, I: Source, O: Sink, E: Sink>(
         Job::Exec { file, steps } => {
             let outcome = exec(alloc, file, steps, store, input, out, err);
             report(err, &[file], "", &outcome)
+        }
+        Job::Types { files } => {
+            let names = files.as_slice();
+            let outcome = types(alloc, names, store, out);
+            report(err, names, "", &outcome)
         }
     }
 }
@@ -160,5 +166,28 @@ fn exec<F: Store, I: Source, O: Sink, E: Sink>(
         Ok(file) => execute(alloc, &file, steps, input, out, err),
         Err(StoreError::NoMemory) => Outcome::NoMemory,
         Err(StoreError::Failed) => Outcome::LoadFault(0),
+    }
+}
+
+// Writes the types of files' names.
+fn types<F: Store, O: Sink>(alloc: Global, names: &[&str], store: &mut F, out: &mut O) -> Outcome
+    requires { length names.now ≤ 256 }
+    ensures performed { (i e : ℕ) (input err : Option (List ℕ)) → Came (O.taken out.old) (O.taken out.new) err err (λ wrote wrote_err.
+        Performed (TypesFiles (map (λ name. name.now) names.now)) (F.files store.old) (F.files store.new)
+        (tally (F.faults store.old) i (O.faults out.old) e)
+        (tally (F.faults store.new) i (O.faults out.new) e) input wrote wrote_err result) }
+    ensures sure { All (F.surely_loads store.old) (map (λ name. name.now) names.now) → O.sure out.old → is_fault result ≡ false }
+{
+    match load_all(alloc, names, store) {
+        Loaded::Files(files) => match show(alloc, names, &files) {
+            Shown::Text(text) => match write_whole(out, &text) {
+                Ok(()) => Outcome::Done,
+                Err(_) => Outcome::OutFault,
+            },
+            Shown::Refused(line) => Outcome::Refused(line),
+            Shown::NoMemory => Outcome::NoMemory,
+        },
+        Loaded::Failed(at) => Outcome::LoadFault(at),
+        Loaded::NoMemory => Outcome::NoMemory,
     }
 }

@@ -1,7 +1,7 @@
 use Rattle.std.proofs.Common.{ℕ, List, sym, subst}
 use Rattle.std.specs.Prelude.{map}
 use Rattle.std.specs.Borrow.{Bor}
-use Rattle.smlc_top.specs.Job.{RunFiles, CompileFiles, ExecFile, IsAsked}
+use Rattle.smlc_top.specs.Job.{RunFiles, CompileFiles, ExecFile, TypesFiles, IsAsked}
 use Rattle.smlc_top.specs.Clause.{tally}
 use Rattle.smlc_top.proofs.Answering.{reported}
 use Rattle.smlc_top.proofs.Faults.{came_none}
@@ -30,3 +30,12 @@ returns-in-Compile-clause-answer g c = λ words asked.
     (tally (g.F.Store.faults c.compile-outcome.new.store) i o e) (g.I.Source.left c.args.input.now) (g.E.Sink.faults c.report-in-Compile.new.err) c.report-in-Compile.result
     (g.O.Sink.taken c.args.out.now) (g.O.Sink.taken c.args.out.now) (g.E.Sink.taken c.args.err.now) (g.E.Sink.taken c.args.err.now) (g.E.Sink.taken c.report-in-Compile.new.err) c.compile-outcome.result (subst (λ (xs : List (Bor (List ℕ))). IsAsked words (CompileFiles (map (λ x. x.now) xs) c.in-Compile.target.now)) (sym c.as_slice-names-in-Compile.ensures.value) (rw c.in-Compile.is at asked))
     (came_none (g.O.Sink.taken c.args.out.now) (g.E.Sink.taken c.args.err.now) _ (c.compile-outcome.ensures.performed i o e (g.I.Source.left c.args.input.now))) c.report-in-Compile.ensures.said
+
+pub returns-in-Types-clause-answer : goal.returns-in-Types-clause-answer
+returns-in-Types-clause-answer g c = λ words asked.
+    let i = g.I.Source.faults c.args.input.now in
+    let e = g.E.Sink.faults c.args.err.now in
+    reported words (g.F.Store.files c.args.store.now) (g.F.Store.files c.types-outcome.new.store) (TypesFiles (map (λ x. x.now) c.as_slice-names-in-Types.result.now)) (tally (g.F.Store.faults c.args.store.now) i (g.O.Sink.faults c.args.out.now) e)
+    (tally (g.F.Store.faults c.types-outcome.new.store) i (g.O.Sink.faults c.types-outcome.new.out) e) (g.I.Source.left c.args.input.now) (g.E.Sink.faults c.report-in-Types.new.err) c.report-in-Types.result
+    (g.O.Sink.taken c.args.out.now) (g.O.Sink.taken c.types-outcome.new.out) (g.E.Sink.taken c.args.err.now) (g.E.Sink.taken c.args.err.now) (g.E.Sink.taken c.report-in-Types.new.err) c.types-outcome.result (subst (λ (xs : List (Bor (List ℕ))). IsAsked words (TypesFiles (map (λ x. x.now) xs))) (sym c.as_slice-names-in-Types.ensures.value) (rw c.in-Types.is at asked))
+    (c.types-outcome.ensures.performed i e (g.I.Source.left c.args.input.now) (g.E.Sink.taken c.args.err.now)) c.report-in-Types.ensures.said
