@@ -232,11 +232,245 @@ const PROGRAMS: &[Case] = &[
         status: 2,
     },
     Case {
+        files: &["val r = ref nil\nval _ = r := [1]\nval _ = r := [\"a\"]\n"],
+        store: &[],
+        out: &[],
+        written: "",
+        error: "f.sml:3:1: refused 12 BadType\n",
+        status: 2,
+    },
+    Case {
+        files: &["val _ = print \"a\"\n", "val x = 1 + true"],
+        store: &[],
+        out: &[],
+        written: "",
+        error: "g.sml:1:1: refused 12 BadType\n",
+        status: 2,
+    },
+    Case {
+        files: &["val x = fn x => x\nval y = x x 1 2"],
+        store: &[],
+        out: &[],
+        written: "",
+        error: "f.sml:2:1: refused 12 BadType\n",
+        status: 2,
+    },
+    Case {
         files: &["val _ = print \"ab\"\nval _ = print \"cd\"\n"],
         store: &[],
         out: &[2],
         written: "ab",
         error: "fault out\n",
+        status: 5,
+    },
+];
+
+/// What comes of the types of programs.
+const TYPES: &[Case] = &[
+    Case {
+        files: &["val r = ref nil\nval _ = r := [1]\n"],
+        store: &[],
+        out: &[],
+        written: "val r : int list ref\n",
+        error: "",
+        status: 0,
+    },
+    Case {
+        files: &["val r = ref nil\n"],
+        store: &[],
+        out: &[],
+        written: "val r : '_a list ref\n",
+        error: "",
+        status: 0,
+    },
+    Case {
+        files: &["fun id x = x\n"],
+        store: &[],
+        out: &[],
+        written: "val id : 'a -> 'a\n",
+        error: "",
+        status: 0,
+    },
+    Case {
+        files: &["fun f x = x", "fun eq (x, y) = x = y"],
+        store: &[],
+        out: &[],
+        written: "val f : 'a -> 'a\nval eq : ''a * ''a -> bool\n",
+        error: "",
+        status: 0,
+    },
+    Case {
+        files: &[""],
+        store: &[],
+        out: &[],
+        written: "",
+        error: "",
+        status: 0,
+    },
+    Case {
+        files: &["val _ = print \"a\" val x = print"],
+        store: &[],
+        out: &[],
+        written: "val x : string -> unit\n",
+        error: "",
+        status: 0,
+    },
+    Case {
+        files: &["val r = ref nil and s = ref NONE"],
+        store: &[],
+        out: &[],
+        written: "val r : '_a list ref\nval s : '_b option ref\n",
+        error: "",
+        status: 0,
+    },
+    Case {
+        files: &["val f = (fn x => x) (fn x => x)\nval g = f\nval u = ()"],
+        store: &[],
+        out: &[],
+        written: "val f : '_a -> '_a\nval g : '_a -> '_a\nval u : unit\n",
+        error: "",
+        status: 0,
+    },
+    Case {
+        files: &[
+            "val (a, b) = (1, #\"c\") val c = {x = a, y = b}\nlocal val d = 2 in val e = d end",
+        ],
+        store: &[],
+        out: &[],
+        written: "val a : int\nval b : char\nval c : {x : int, y : char}\nval e : int\n",
+        error: "",
+        status: 0,
+    },
+    Case {
+        files: &["fun f x y z = (x, {a = y, b = [z]}, fn () => x)"],
+        store: &[],
+        out: &[],
+        written: "val f : 'a -> 'b -> 'c -> 'a * {a : 'b, b : 'c list} * (unit -> 'a)\n",
+        error: "",
+        status: 0,
+    },
+    Case {
+        files: &[
+            "datatype ('a, 'b) pair = Pair of 'a * 'b\nval p = fn (x, y) => Pair (x, y)\nexception E of int\nval e = E",
+        ],
+        store: &[],
+        out: &[],
+        written: "val p : 'a * 'b -> ('a, 'b) pair\nval e : int -> exn\n",
+        error: "",
+        status: 0,
+    },
+    Case {
+        files: &[
+            "val rec even = fn 0 => true | n => odd (n - 1) and odd = fn 0 => false | n => even (n - 1)",
+        ],
+        store: &[],
+        out: &[],
+        written: "val even : int -> bool\nval odd : int -> bool\n",
+        error: "",
+        status: 0,
+    },
+    Case {
+        files: &["val x = (nil : 'a list)\nval y : 'a list = nil"],
+        store: &[],
+        out: &[],
+        written: "val x : 'a list\nval y : 'a list\n",
+        error: "",
+        status: 0,
+    },
+    Case {
+        files: &["val x = 1 + true"],
+        store: &[],
+        out: &[],
+        written: "",
+        error: "f.sml:1:1: refused 12 BadType\n",
+        status: 2,
+    },
+    Case {
+        files: &["val x = 1\nval y = x 2\n"],
+        store: &[],
+        out: &[],
+        written: "",
+        error: "f.sml:2:1: refused 12 BadType\n",
+        status: 2,
+    },
+    Case {
+        files: &["val x = 1", "val y = x 2"],
+        store: &[],
+        out: &[],
+        written: "",
+        error: "g.sml:1:1: refused 12 BadType\n",
+        status: 2,
+    },
+    Case {
+        files: &["val r = ref nil\nval _ = r := [1]\nval _ = r := [\"a\"]\n"],
+        store: &[],
+        out: &[],
+        written: "",
+        error: "f.sml:3:1: refused 12 BadType\n",
+        status: 2,
+    },
+    Case {
+        files: &["val r = ref nil\ndatatype t = A\nval _ = r := [A]"],
+        store: &[],
+        out: &[],
+        written: "",
+        error: "f.sml:3:1: refused 12 BadType\n",
+        status: 2,
+    },
+    Case {
+        files: &["datatype t = A | B of t -> t\nval _ = A = A\n"],
+        store: &[],
+        out: &[],
+        written: "",
+        error: "f.sml:2:1: refused 12 BadType\n",
+        status: 2,
+    },
+    Case {
+        files: &["val x = let datatype t = A in A end"],
+        store: &[],
+        out: &[],
+        written: "",
+        error: "f.sml:1:1: refused 12 BadType\n",
+        status: 2,
+    },
+    Case {
+        files: &["fun h (f : int -> int) = f 1 val g = h h"],
+        store: &[],
+        out: &[],
+        written: "",
+        error: "f.sml:1:30: refused 12 BadType\n",
+        status: 2,
+    },
+    Case {
+        files: &["val x = y val z = 1 2"],
+        store: &[],
+        out: &[],
+        written: "",
+        error: "f.sml:1:9: refused 10 Unbound\n",
+        status: 2,
+    },
+    Case {
+        files: &["val _ = 1 2\nval _ = ("],
+        store: &[],
+        out: &[],
+        written: "",
+        error: "f.sml:2:10: refused 4 Syntax\n",
+        status: 2,
+    },
+    Case {
+        files: &["fun id x = x\n"],
+        store: &[],
+        out: &[1],
+        written: "",
+        error: "fault out\n",
+        status: 5,
+    },
+    Case {
+        files: &["fun id x = x\n"],
+        store: &[1],
+        out: &[],
+        written: "",
+        error: "fault store f.sml\n",
         status: 5,
     },
 ];
@@ -249,10 +483,16 @@ fn words(alloc: Global, names: &[&str]) -> Result<Vec<String>, Fail> {
     Ok(words)
 }
 
-// What `run` of a case's files answers; `out` and `err` get what it writes.
-fn ran(alloc: Global, case: &Case, out: &mut MemSink, err: &mut MemSink) -> Result<u8, Fail> {
+// What a command answers on a case's files; `out` and `err` get what it writes.
+fn answered(
+    alloc: Global,
+    command: &str,
+    case: &Case,
+    out: &mut MemSink,
+    err: &mut MemSink,
+) -> Result<u8, Fail> {
     let mut store = MemStore::new(alloc, case.store.to_vec(alloc)?);
-    let mut words = words(alloc, &["smlc", "run"])?;
+    let mut words = words(alloc, &["smlc", command])?;
     for (name, file) in ["f.sml", "g.sml"].iter().zip(case.files) {
         store.add(name, file.as_bytes())?;
         words.push(name.to_string(alloc)?)?;
@@ -273,7 +513,10 @@ fn what_comes_before_the_bare_tree(rt: HostRuntime) -> Result<(), Fail> {
     for case in EARLY {
         let mut out = sink(alloc, case.out)?;
         let mut err = sink(alloc, &[])?;
-        assert_eq!(rt; ran(alloc, case, &mut out, &mut err)?, case.status);
+        assert_eq!(rt;
+            answered(alloc, "run", case, &mut out, &mut err)?,
+            case.status
+        );
         assert_eq!(rt; out.bytes(), case.written.as_bytes());
         assert_eq!(rt; err.bytes(), case.error.as_bytes());
     }
@@ -286,7 +529,26 @@ fn programs_and_faults(rt: HostRuntime) -> Result<(), Fail> {
     for case in PROGRAMS {
         let mut out = sink(alloc, case.out)?;
         let mut err = sink(alloc, &[])?;
-        assert_eq!(rt; ran(alloc, case, &mut out, &mut err)?, case.status);
+        assert_eq!(rt;
+            answered(alloc, "run", case, &mut out, &mut err)?,
+            case.status
+        );
+        assert_eq!(rt; out.bytes(), case.written.as_bytes());
+        assert_eq!(rt; err.bytes(), case.error.as_bytes());
+    }
+    Ok(())
+}
+
+#[test]
+fn types_of_programs(rt: HostRuntime) -> Result<(), Fail> {
+    let alloc = rt.alloc();
+    for case in TYPES {
+        let mut out = sink(alloc, case.out)?;
+        let mut err = sink(alloc, &[])?;
+        assert_eq!(rt;
+            answered(alloc, "types", case, &mut out, &mut err)?,
+            case.status
+        );
         assert_eq!(rt; out.bytes(), case.written.as_bytes());
         assert_eq!(rt; err.bytes(), case.error.as_bytes());
     }
