@@ -1,9 +1,8 @@
 -- What is settled stays as it is, for the callers of `close` and `settle_matched`.
-use Rattle.std.proofs.Common.{◌≡◌, ℕ, Bool, true, false, List, Option, Some, None, refl, sym, ap, ◌∙◌}
+use Rattle.std.proofs.Common.{◌≡◌, ℕ, true, false, List, Option, Some, None, refl, sym, ap, ◌∙◌}
 use Rattle.std.specs.Prelude.{◌||◌, slice_get}
 use Rattle.sml_types.specs.declared.types.TyForm.{TyForm}
 use Rattle.sml_types.specs.Tree.{Tree}
-use Rattle.sml_types.specs.Forms.{tree}
 use Rattle.sml_types.specs.Poly.{Poly, poly, is_in}
 use Rattle.sml_types.proofs.TreeFacts.{either, or_left, or_right}
 use Rattle.sml_unify.specs.Steps.{IsLonger}

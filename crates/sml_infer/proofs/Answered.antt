@@ -1,6 +1,5 @@
 -- What inference answers, from what it ended with.
-use Rattle.std.proofs.Common.{◌≡◌, ◌<◌, ℕ, Option, Some, List, length, refl, sym, ap, subst, ◌∙◌}
-use Rattle.std.specs.Prelude.{slice_get}
+use Rattle.std.proofs.Common.{◌≡◌, ℕ, Option, List, length, sym, ap, subst, ◌∙◌}
 use Rattle.sml_tree.specs.declared.bare.Bare.{Bare}
 use Rattle.sml_types.specs.declared.types.Ty.{Ty}
 use Rattle.sml_types.specs.declared.types.TyForm.{TyForm}
@@ -8,8 +7,7 @@ use Rattle.sml_types.specs.declared.scheme.NameScheme.{NameScheme}
 use Rattle.sml_types.specs.declared.typed.Typed.{Typed}
 use Rattle.sml_types.specs.declared.tables.Tables.{Tables}
 use Rattle.sml_types.specs.Library.{name_types}
-use Rattle.sml_types.specs.Poly.{Poly}
-use Rattle.sml_types.specs.Schemes.{AreOrdered, scheme_poly}
+use Rattle.sml_types.specs.Schemes.{AreOrdered}
 use Rattle.sml_unify.specs.declared.resolve.Rename.{Rename}
 use Rattle.sml_unify.specs.Resolve.{AreRenames}
 use Rattle.sml_unify.specs.Steps.{IsLonger}
@@ -19,7 +17,7 @@ use Rattle.infer_laws.proofs.Longer.{rows_same}
 use Rattle.sml_infer.specs.declared.below.Below.{Below}
 use Rattle.sml_infer.specs.Below.{IsBelow, typing_below}
 use Rattle.sml_infer.specs.Going.{now}
-use Rattle.sml_infer.specs.Schemes.{AreReady, AreNamed, name_poly}
+use Rattle.sml_infer.specs.Schemes.{AreReady, AreNamed}
 use Rattle.sml_infer.specs.Typing.{IsInferred}
 use Rattle.sml_infer.proofs.Ended.{ended_principal}
 

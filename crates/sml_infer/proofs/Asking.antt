@@ -1,7 +1,7 @@
 -- The rule of a node is asked.
 use native.Mathlib.Omega.{arith}
-use Rattle.std.proofs.Common.{◌≡◌, ◌<◌, ◌⊎◌, inl, inr, ℕ, zero, suc, Bool, Option, Some, None, List, [], ◌∷◌, true, false, length, refl, sym, ap, subst, ◌∙◌}
-use Rattle.std.specs.Prelude.{slice_get, ◌≤◌, Result, Ok, Err, IfOk}
+use Rattle.std.proofs.Common.{◌≡◌, ◌<◌, ◌⊎◌, inl, inr, ℕ, zero, suc, Some, List, [], ◌∷◌, length, refl, sym, ap, subst}
+use Rattle.std.specs.Prelude.{slice_get, Result, Ok, Err, IfOk}
 use Rattle.std.specs.List.{AllByRecursion}
 use Rattle.sml_tree.specs.declared.bare.Bare.{Bare}
 use Rattle.sml_tree.specs.declared.bare.Node.{Node}
@@ -30,8 +30,8 @@ use Rattle.infer_laws.specs.Gives.{IsOwnOpen}
 use Rattle.infer_laws.proofs.Meets.{typings_meet}
 use Rattle.infer_laws.proofs.Settled.{settled_marks}
 use Rattle.infer_laws.proofs.Longer.{rows_same}
-use Rattle.sml_infer.specs.Stages.{Stage, known, Grows, Follows, IsDone}
-use Rattle.sml_infer.specs.Going.{Now, stage, IsSound, AllFollow, AreDone, AreNoted, AreBehind, IsGoing, IsEntered}
+use Rattle.sml_infer.specs.Stages.{known, Grows, IsDone}
+use Rattle.sml_infer.specs.Going.{Now, stage, AreDone, IsGoing, IsEntered}
 use Rattle.sml_infer.proofs.Kept.{abbreviations_back, known_kept}
 use Rattle.sml_infer.proofs.Turns.{with_unknowns, sound_bound, follow_bound, done_bound, grows_bound}
 

@@ -1,6 +1,5 @@
 -- What inference ends with is a principal typing.
-use native.Mathlib.Omega.{arith}
-use Rattle.std.proofs.Common.{◌≡◌, ◌<◌, ◌≤◌, ◌⊎◌, inl, inr, ℕ, zero, suc, Bool, Option, Some, None, List, [], ◌∷◌, true, false, length, refl, sym, ap, subst, ◌∙◌}
+use Rattle.std.proofs.Common.{◌≡◌, ◌<◌, ◌⊎◌, inl, inr, ℕ, zero, suc, Option, Some, None, List, [], ◌∷◌, length, refl, sym, ap, subst, ◌∙◌}
 use Rattle.std.specs.Prelude.{slice_get, take}
 use Rattle.std.specs.List.{AllByRecursion}
 use Rattle.sml_tree.specs.declared.bare.Bare.{Bare}
@@ -12,7 +11,7 @@ use Rattle.sml_types.specs.declared.types.TyForm.{TyForm}
 use Rattle.sml_types.specs.declared.tables.ConRow.{ConRow}
 use Rattle.sml_types.specs.declared.tables.TypeName.{TypeName}
 use Rattle.sml_types.specs.Poly.{Poly, Context}
-use Rattle.sml_types.specs.Library.{NameType, name_types, library, BeginsWithLibrary}
+use Rattle.sml_types.specs.Library.{NameType, name_types, BeginsWithLibrary}
 use Rattle.sml_types.specs.Typing.{Typing, IsTypedNode, IsTypingBelow}
 use Rattle.sml_unify.specs.declared.resolve.Rename.{Rename}
 use Rattle.sml_unify.specs.Solved.{Substitution, IsSolved}
@@ -34,7 +33,7 @@ use Rattle.infer_laws.proofs.Principal.{principal}
 use Rattle.infer_laws.proofs.Settled.{settled_known, settled_marks, settled_once, settled_named}
 use Rattle.infer_scopes.specs.Scopes.{contexts_of}
 use Rattle.infer_checks.specs.Checked.{IsNoTypeDeclaration, ending, ended, generals}
-use Rattle.sml_infer.specs.Stages.{Stage, known}
+use Rattle.sml_infer.specs.Stages.{known}
 use Rattle.sml_infer.specs.Going.{Now, stage}
 use Rattle.sml_infer.specs.Below.{IsEnded}
 

@@ -1,6 +1,6 @@
 -- The steps of a turn keep what holds while inference goes on.
 use native.Mathlib.Omega.{arith}
-use Rattle.std.proofs.Common.{◌≡◌, ◌<◌, ◌≤◌, ◌+◌, ◌⊎◌, inl, inr, ℕ, zero, suc, Bool, Option, Some, None, List, [], ◌∷◌, true, false, length, refl, sym, ap, subst, ◌∙◌}
+use Rattle.std.proofs.Common.{◌≡◌, ◌<◌, ◌≤◌, ◌⊎◌, inl, inr, ℕ, zero, suc, Bool, Option, Some, None, List, [], ◌∷◌, refl, sym, ap, subst, ◌∙◌}
 use Rattle.std.specs.Prelude.{slice_get}
 use Rattle.std.specs.List.{AllByRecursion}
 use Rattle.sml_tree.specs.declared.bare.Bare.{Bare}
@@ -8,23 +8,23 @@ use Rattle.sml_tree.specs.declared.bare.Node.{Node}
 use Rattle.sml_tree.specs.declared.bare.Node.TheVariants as node
 use Rattle.sml_tree.specs.BareParts.{IsNumbered}
 use Rattle.sml_types.specs.Forms.{AreForms}
-use Rattle.sml_types.specs.Poly.{Poly, Context}
+use Rattle.sml_types.specs.Poly.{Context}
 use Rattle.sml_types.specs.Typing.{Typing, IsTypingBelow, IsTypedNode}
 use Rattle.sml_unify.specs.Solved.{Substitution, Solves}
 use Rattle.infer_state.specs.declared.unknowns.Unknowns.{Unknowns}
 use Rattle.infer_state.specs.declared.settled.Settled.{Settled}
 use Rattle.infer_state.specs.declared.declared.Declared.{Declared}
 use Rattle.infer_state.specs.Steps.{Reaches}
-use Rattle.infer_state.specs.Names.{Inside, inside, parts_in, behind, names_bound, AreEntered}
-use Rattle.infer_state.specs.Fits.{Fits, AllSuit, AreThere, AreBodies, settled_at, joined_settled}
+use Rattle.infer_state.specs.Names.{Inside, inside, parts_in, behind, names_bound}
+use Rattle.infer_state.specs.Fits.{Fits, AllSuit, AreThere, AreBodies, settled_at}
 use Rattle.infer_scopes.specs.Scopes.{Stored, AllOpen, AreOpen, contexts_of, HasEntered, HasEnteredBody}
 use Rattle.infer_scopes.specs.Prefix.{IsPrefix}
 use Rattle.infer_closing.specs.Open.{closed_at}
 use Rattle.infer_closing.specs.Closing.{AddsTypes, AreKept, IsLetAt, StaysSuited, StaysMatched}
-use Rattle.sml_infer.specs.Stages.{Stage, known, Grows, Follows, IsDone}
-use Rattle.sml_infer.specs.Going.{Now, stage, let_of, IsSound, AllFollow, AreDone, AreNoted, AreBehind, IsGoing, IsEntered, IsLawful}
+use Rattle.sml_infer.specs.Stages.{known}
+use Rattle.sml_infer.specs.Going.{Now, stage, let_of, IsSound, AreDone, AreNoted, AreBehind, IsGoing, IsEntered, IsLawful}
 use Rattle.sml_infer.proofs.Kept.{known_at}
-use Rattle.sml_infer.proofs.Turns.{with_unknowns, with_scopes, with_settled, sound_settled, follow_settled, done_settled, sound_entered, follow_entered, done_entered, sound_bound, follow_bound, done_bound}
+use Rattle.sml_infer.proofs.Turns.{with_scopes, with_settled, sound_settled, follow_settled, done_settled, sound_entered, follow_entered, done_entered}
 use Rattle.sml_infer.proofs.Lawful.{has_binds, has_matched}
 
 -- a `let` that is noted has its context

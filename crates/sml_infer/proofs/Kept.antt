@@ -1,29 +1,24 @@
 -- What stays when inference goes on.
 use native.Mathlib.Omega.{arith}
-use Rattle.std.proofs.Common.{◌≡◌, ◌<◌, ◌≤◌, ◌+◌, ℕ, zero, suc, Bool, Option, Some, None, List, [], ◌∷◌, true, false, length, refl, sym, ap, subst, ◌∙◌}
-use Rattle.std.specs.Prelude.{slice_get, ◌||◌}
+use Rattle.std.proofs.Common.{◌≡◌, ◌<◌, ◌+◌, ℕ, zero, suc, Option, Some, None, List, [], ◌∷◌, true, false, length, refl, sym, ap, subst, ◌∙◌}
+use Rattle.std.specs.Prelude.{slice_get}
 use Rattle.std.specs.List.{AllByRecursion}
 use Rattle.sml_tree.specs.declared.bare.Bare.{Bare}
 use Rattle.sml_tree.specs.declared.bare.Node.{Node}
-use Rattle.sml_types.specs.declared.types.Ty.{Ty}
 use Rattle.sml_types.specs.declared.types.TyVar.{TyVar}
 use Rattle.sml_types.specs.declared.types.TyForm.{TyForm}
 use Rattle.sml_types.specs.declared.types.TyForm.TheVariants.{Var}
 use Rattle.sml_types.specs.declared.scheme.Scheme.{Scheme}
 use Rattle.sml_types.specs.declared.tables.TypeName.{TypeName}
-use Rattle.sml_types.specs.declared.tables.ConRow.{ConRow}
-use Rattle.sml_types.specs.Tree.{Tree, Variable, inst, AllVars, occurs}
-use Rattle.sml_types.specs.Forms.{tree, parts_of, AreForms}
-use Rattle.sml_types.specs.Poly.{Poly, poly, has_num, Context, is_in}
+use Rattle.sml_types.specs.Tree.{Tree, AllVars, occurs}
+use Rattle.sml_types.specs.Poly.{Poly, poly, has_num}
 use Rattle.sml_types.specs.Schemes.{scheme_poly}
 use Rattle.sml_types.specs.TypeExps.{explicit}
 use Rattle.sml_types.specs.Library.{NameType}
 use Rattle.sml_types.specs.Typing.{Typing, Covers}
-use Rattle.sml_unify.specs.Solved.{Substitution, Solves, Agrees}
-use Rattle.sml_unify.specs.Steps.{IsLonger, AreBelow}
-use Rattle.infer_parts.specs.Segments.{IsSegment}
+use Rattle.sml_unify.specs.Solved.{Substitution, Agrees}
+use Rattle.sml_unify.specs.Steps.{IsLonger}
 use Rattle.infer_parts.specs.Written.{AreAbbreviations, IsClosedScheme}
-use Rattle.infer_state.specs.declared.unknowns.Unknowns.{Unknowns}
 use Rattle.infer_state.specs.declared.settled.Settled.{Settled}
 use Rattle.infer_state.specs.declared.declared.Declared.{Declared}
 use Rattle.infer_state.specs.declared.declared.Starts.{Starts}
@@ -31,8 +26,7 @@ use Rattle.infer_state.specs.Variables.{node_var, name_var, AreLaidOut}
 use Rattle.infer_state.specs.Steps.{IsSolution}
 use Rattle.infer_state.specs.Rules.{IsRule}
 use Rattle.infer_state.specs.Names.{Inside, parts_in}
-use Rattle.infer_state.specs.Fits.{Fits, HasTables, Suits, AllSuit, AreThere, IsThere, IsFormVar, settled_at, settled_poly, joined_settled}
-use Rattle.infer_scopes.specs.Scopes.{Stored, Standing, AllOpen, standings_of}
+use Rattle.infer_state.specs.Fits.{Fits, HasTables, Suits, AllSuit, AreThere, IsThere, IsFormVar, settled_poly, joined_settled}
 use Rattle.infer_nodes.specs.Good.{AreDeclaredIn}
 use Rattle.infer_laws.proofs.Copies.{vars_map, vars_both, inst_on}
 use Rattle.infer_laws.proofs.Settled.{settled_known}

@@ -1,6 +1,5 @@
 -- What a typing has where a declaration is closed or a match is entered.
-use native.Mathlib.Omega.{arith}
-use Rattle.std.proofs.Common.{◌≡◌, ◌<◌, ◌≤◌, ℕ, zero, suc, Bool, Option, Some, None, List, [], ◌∷◌, true, false, length, refl, sym, ap, subst, ◌∙◌, flat_map, map}
+use Rattle.std.proofs.Common.{◌≡◌, ◌<◌, ℕ, Option, Some, None, List, [], ◌∷◌, true, refl, flat_map, map}
 use Rattle.std.specs.Prelude.{slice_get}
 use Rattle.std.specs.List.{AllByRecursion}
 use Rattle.sml_tree.specs.declared.bare.Bare.{Bare}
@@ -11,7 +10,7 @@ use Rattle.sml_tree.specs.declared.bare.Node.TheVariants as node
 use Rattle.sml_tree.specs.BareParts.{rule_parts}
 use Rattle.sml_types.specs.Typing.{Typing}
 use Rattle.infer_state.specs.Names.{names_bound}
-use Rattle.infer_scopes.specs.Prefix.{is_binder, is_binder_at, near_parts, binding_parts, IsPrefix}
+use Rattle.infer_scopes.specs.Prefix.{is_binder_at, near_parts, binding_parts, IsPrefix}
 use Rattle.infer_closing.specs.Closing.{HasBinds, HasMatchBinds, HasBindsMatched}
 use Rattle.sml_infer.specs.Going.{IsLawful}
 

@@ -1,8 +1,7 @@
 -- The schemes of names in the end, when forms are added.
 use native.Mathlib.Omega.{arith}
-use Rattle.std.proofs.Common.{◌≡◌, ◌<◌, ◌≤◌, ◌+◌, ◌^◌, ◌++◌, ℕ, zero, suc, Bool, Option, Some, None, List, [], ◌∷◌, true, false, length, map, refl, sym, ap, subst, ◌∙◌, nat_eq}
+use Rattle.std.proofs.Common.{◌≡◌, ◌<◌, ◌+◌, ◌^◌, ◌++◌, ℕ, zero, suc, Option, Some, None, List, [], ◌∷◌, true, length, map, refl, sym, ap, subst, ◌∙◌}
 use Rattle.std.specs.Prelude.{slice_get, is_none}
-use Rattle.std.specs.List.{find}
 use Rattle.sml_tree.specs.declared.bare.Bare.{Bare}
 use Rattle.sml_types.specs.declared.types.Ty.{Ty}
 use Rattle.sml_types.specs.declared.types.TyVar.{TyVar}
@@ -10,23 +9,21 @@ use Rattle.sml_types.specs.declared.types.TyForm.{TyForm}
 use Rattle.sml_types.specs.declared.types.TyForm.TheVariants.{Var}
 use Rattle.sml_types.specs.declared.scheme.Scheme.{Scheme}
 use Rattle.sml_types.specs.declared.scheme.NameScheme.{NameScheme}
-use Rattle.sml_types.specs.Tree.{Tree, Variable, inst}
+use Rattle.sml_types.specs.Tree.{Tree, inst}
 use Rattle.sml_types.specs.Forms.{tree, AreForms}
 use Rattle.sml_types.specs.Poly.{Poly, poly, mono}
-use Rattle.sml_types.specs.Schemes.{scheme_poly}
 use Rattle.sml_types.proofs.TreeFacts.{and_both, inst_same, inst_inst}
 use Rattle.sml_unify.specs.declared.resolve.Rename.{Rename}
-use Rattle.sml_unify.specs.Solved.{Substitution, AreBindings, bound_at, rounds, meant, under}
-use Rattle.sml_unify.specs.Resolve.{led_to, renamed_as, renamed, AreRenames, AreVarsOf}
+use Rattle.sml_unify.specs.Solved.{AreBindings, bound_at, rounds, meant, under}
+use Rattle.sml_unify.specs.Resolve.{renamed, AreRenames}
 use Rattle.sml_unify.specs.Steps.{IsLonger}
-use Rattle.sml_unify.proofs.CopyFacts.{renames_kept}
 use Rattle.sml_unify.proofs.Fresh.{bindings_longer}
 use Rattle.sml_unify.proofs.Heads.{tree_var}
 use Rattle.sml_unify.proofs.Meant.{rounds_zero, rounds_free, rounds_bound, bound_cases, meant_free}
 use Rattle.sml_unify.proofs.Fresh.{solved_of}
 use Rattle.infer_state.specs.declared.declared.Starts.{Starts}
 use Rattle.infer_state.specs.declared.settled.Settled.{Settled}
-use Rattle.infer_state.specs.Variables.{AreLaidOut, name_var}
+use Rattle.infer_state.specs.Variables.{name_var}
 use Rattle.infer_state.specs.Fits.{AreThere, settled_at, settled_poly, joined_settled}
 use Rattle.infer_state.specs.Typings.{var_at, poly_under, scheme_under}
 use Rattle.infer_laws.specs.Final.{final}

@@ -1,6 +1,5 @@
 -- What stays from pass to pass.
-use native.Mathlib.Omega.{arith}
-use Rattle.std.proofs.Common.{◌≡◌, ◌≤◌, ℕ, Result, Ok, Err, refl, sym, subst, ◌∙◌}
+use Rattle.std.proofs.Common.{◌≡◌, ℕ, Result, refl, subst, ◌∙◌}
 use Rattle.sml_tree.specs.declared.bare.Bare.{Bare}
 use Rattle.sml_types.specs.Typing.{Typing, IsTypingBelow}
 use Rattle.infer_state.specs.declared.declared.Declared.{Declared}

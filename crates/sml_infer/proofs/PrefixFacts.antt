@@ -1,6 +1,6 @@
 -- What inference of a prefix ends with.
 use native.Mathlib.Omega.{arith}
-use Rattle.std.proofs.Common.{◌≡◌, ◌<◌, ◌≤◌, ℕ, zero, suc, Option, Some, None, List, [], ◌∷◌, length, Result, Ok, Err, refl, sym, ap, subst, ◌∙◌}
+use Rattle.std.proofs.Common.{◌≡◌, ◌<◌, ℕ, zero, suc, Option, Some, None, List, [], ◌∷◌, length, Result, Ok, Err, refl, ap, subst, ◌∙◌}
 use Rattle.std.specs.Prelude.{slice_get, take}
 use Rattle.std.specs.List.{AllByRecursion}
 use Rattle.std.proofs.lemmas.Option.{slice_get_within}
@@ -8,7 +8,6 @@ use Rattle.sml_tree.specs.declared.bare.Bare.{Bare}
 use Rattle.sml_tree.specs.declared.bare.Node.{Node}
 use Rattle.sml_tree.specs.BareParts.{IsNumbered}
 use Rattle.sml_types.specs.declared.types.TyVar.{TyVar}
-use Rattle.sml_types.specs.declared.types.TyForm.{TyForm}
 use Rattle.sml_types.specs.Typing.{Typing, IsTypingBelow}
 use Rattle.sml_unify.specs.declared.resolve.Rename.{Rename}
 use Rattle.sml_unify.specs.Steps.{IsLonger}
@@ -23,11 +22,10 @@ use Rattle.infer_scopes.specs.Prefix.{IsPrefix}
 use Rattle.infer_scopes.specs.Scopes.{contexts_of, first_context}
 use Rattle.infer_checks.specs.Checked.{IsChecked, IsUnchecked, IsRefused}
 use Rattle.sml_infer.specs.declared.inference.Inference.{Inference}
-use Rattle.sml_infer.specs.Going.{Now, now, let_of, joined_number, Keeps, CitesBelow, IsGoing}
+use Rattle.sml_infer.specs.Going.{Now, now, joined_number, Keeps, CitesBelow, IsGoing}
 use Rattle.sml_infer.specs.Begun.{IsGoodPrefix, IsBegun, AreTypesBelow}
 use Rattle.sml_infer.specs.Below.{IsEnded, AreTypesCited}
 use Rattle.sml_infer.proofs.Contexts.{lawful}
-use Rattle.sml_infer.proofs.Kept.{known_at}
 
 -- ---- Written types
 

@@ -1,5 +1,5 @@
 -- What a run says of the first declarations.
-use Rattle.std.proofs.Common.{◌≡◌, ◌<◌, ◌≤◌, ◌-◌, ℕ, zero, suc, List, [], ◌∷◌, Result, Ok, IfOk, length, refl, sym, ap, subst, ◌∙◌, arith}
+use Rattle.std.proofs.Common.{◌≡◌, ◌<◌, ◌≤◌, ℕ, suc, List, [], ◌∷◌, Result, Ok, IfOk, length, refl, sym, subst, ◌∙◌, arith}
 use Rattle.std.specs.Prelude.{get_or}
 use Rattle.sml_tree.specs.declared.bare.Bare.{Bare}
 use Rattle.infer_state.specs.declared.failure.Failure.{Failure}

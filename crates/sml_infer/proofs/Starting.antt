@@ -1,6 +1,6 @@
 -- What holds before the first node.
 use native.Mathlib.Omega.{arith}
-use Rattle.std.proofs.Common.{◌≡◌, ◌<◌, Bool, ℕ, zero, suc, Option, Some, None, List, [], ◌∷◌, length, refl, sym, ap, subst, ◌∙◌}
+use Rattle.std.proofs.Common.{◌≡◌, ◌<◌, Bool, ℕ, zero, suc, Option, Some, None, List, [], ◌∷◌, length, sym, ap, subst, ◌∙◌}
 use Rattle.std.specs.Prelude.{slice_get}
 use Rattle.std.specs.List.{AllByRecursion}
 use Rattle.sml_tree.specs.declared.bare.Bare.{Bare}
@@ -10,18 +10,16 @@ use Rattle.sml_types.specs.declared.types.TyVar.{TyVar}
 use Rattle.sml_types.specs.declared.tables.ConRow.{ConRow}
 use Rattle.sml_types.specs.declared.tables.TypeName.{TypeName}
 use Rattle.sml_types.specs.Forms.{tree, AreForms}
-use Rattle.sml_types.specs.Poly.{Poly, Context}
-use Rattle.sml_types.specs.Typing.{Typing, IsTypingBelow, Covers}
+use Rattle.sml_types.specs.Typing.{Covers}
 use Rattle.infer_state.specs.declared.unknowns.Unknowns.{Unknowns}
-use Rattle.infer_state.specs.declared.settled.Settled.{Settled}
 use Rattle.infer_state.specs.declared.declared.Declared.{Declared}
-use Rattle.infer_state.specs.Fits.{settled_at, settled_poly, joined_settled}
+use Rattle.infer_state.specs.Fits.{settled_poly, joined_settled}
 use Rattle.infer_tables.specs.Declare.{IsDeclared, IsClosedRow, IsClosedArgument}
-use Rattle.infer_scopes.specs.Scopes.{Stored, AllOpen, IsFirst, contexts_of}
+use Rattle.infer_scopes.specs.Scopes.{AllOpen, IsFirst, contexts_of}
 use Rattle.infer_nodes.specs.Good.{AreDeclaredIn}
 use Rattle.infer_closing.specs.Open.{closed_at}
-use Rattle.sml_infer.specs.Stages.{Stage, known}
-use Rattle.sml_infer.specs.Going.{Now, stage, let_of, joined_number, IsSound, AreDone, AreNoted, AreBehind, IsGoing}
+use Rattle.sml_infer.specs.Stages.{known}
+use Rattle.sml_infer.specs.Going.{Now, stage, joined_number, IsGoing}
 
 module _ (forms : List TyForm) where
   argument_at : (vars : List TyVar) (o : Option Ty) (a : Ty) → IsClosedArgument forms vars o → o ≡ Some a → (a.0 < length forms) × Covers vars (tree forms a.0)

@@ -1,30 +1,24 @@
 -- One step after another in the turn of a node.
 use native.Mathlib.Omega.{arith}
-use Rattle.std.proofs.Common.{◌≡◌, ◌<◌, ◌≤◌, ◌+◌, ◌⊎◌, inl, inr, ℕ, zero, suc, Bool, Option, Some, None, List, [], ◌∷◌, true, false, length, refl, sym, ap, subst, ◌∙◌}
-use Rattle.std.specs.Prelude.{slice_get, ◌||◌, Result, Ok, Err}
+use Rattle.std.proofs.Common.{◌≡◌, ◌⊎◌, inl, inr, ℕ, Bool, Option, Some, None, List, [], ◌∷◌, true, false, refl, sym, ap, subst, ◌∙◌}
+use Rattle.std.specs.Prelude.{slice_get, ◌||◌}
 use Rattle.std.specs.List.{AllByRecursion}
 use Rattle.sml_tree.specs.declared.bare.Bare.{Bare}
-use Rattle.sml_tree.specs.declared.bare.Node.{Node}
-use Rattle.sml_tree.specs.declared.bare.Node.TheVariants as node
-use Rattle.sml_types.specs.declared.tables.TypeName.{TypeName}
-use Rattle.sml_types.specs.Tree.{Tree, inst}
 use Rattle.sml_types.specs.Forms.{AreForms}
 use Rattle.sml_types.specs.Poly.{Poly, Context, is_in}
-use Rattle.sml_types.specs.Typing.{Typing, IsTypingBelow, IsTypedNode}
-use Rattle.sml_unify.specs.Solved.{Substitution, Solves, Agrees}
+use Rattle.sml_types.specs.Typing.{Typing}
+use Rattle.sml_unify.specs.Solved.{Substitution, Solves}
 use Rattle.infer_state.specs.declared.unknowns.Unknowns.{Unknowns}
 use Rattle.infer_state.specs.declared.settled.Settled.{Settled}
 use Rattle.infer_state.specs.declared.declared.Declared.{Declared}
-use Rattle.infer_state.specs.Variables.{name_var}
-use Rattle.infer_state.specs.Steps.{IsState, IsSolution, Reaches}
-use Rattle.infer_state.specs.Names.{Inside, inside, parts_in, behind, AreEntered, IsOneOf}
-use Rattle.infer_state.specs.Fits.{Fits, AllSuit, AreThere, AreBodies, settled_at, joined_settled}
-use Rattle.infer_scopes.specs.Scopes.{Stored, Standing, IsOpen, AllOpen, contexts_of, standings_of}
-use Rattle.infer_nodes.specs.Good.{AreDeclaredIn}
+use Rattle.infer_state.specs.Steps.{Reaches}
+use Rattle.infer_state.specs.Names.{Inside, inside, AreEntered, IsOneOf}
+use Rattle.infer_state.specs.Fits.{Fits, AllSuit, AreThere, AreBodies, joined_settled}
+use Rattle.infer_scopes.specs.Scopes.{Stored, AllOpen, contexts_of}
 use Rattle.infer_closing.specs.Open.{closed_at, is_closed}
 use Rattle.infer_laws.proofs.Longer.{settled_same}
-use Rattle.sml_infer.specs.Stages.{Stage, known, Grows, Follows, IsDone}
-use Rattle.sml_infer.specs.Going.{Now, stage, let_of, IsSound, AllFollow, AreDone, AreNoted, AreBehind, IsGoing}
+use Rattle.sml_infer.specs.Stages.{known, Grows, Follows}
+use Rattle.sml_infer.specs.Going.{Now, stage, IsSound, AreDone}
 use Rattle.sml_infer.proofs.Kept.{laid_longer, tables_longer, all_there, declared_longer, known_kept, done_kept, fits_on, all_suit_on}
 
 -- ---- Closed names stay closed

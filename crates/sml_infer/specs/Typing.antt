@@ -1,6 +1,5 @@
 -- What inference answers.
-use Rattle.std.specs.Prelude.{◌≡◌, ℕ, ◌<◌, Some, List, length, slice_get, get_or}
-use Rattle.smlc_base.specs.declared.refusal.Refusal.{Refusal}
+use Rattle.std.specs.Prelude.{◌≡◌, ℕ, Some, length, slice_get}
 use Rattle.smlc_base.specs.declared.refusal.Refusal.TheVariants.{BadType}
 use Rattle.smlc_base.specs.declared.refusal.CompileError.{CompileError}
 use Rattle.smlc_base.specs.declared.refusal.CompileError.TheVariants.{Refused, NoMemory}

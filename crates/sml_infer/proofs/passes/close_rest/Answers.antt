@@ -1,6 +1,6 @@
-use Rattle.std.proofs.Common.{◌≡◌, ◌≤◌, ◌<◌, suc, arith, refl, sym, subst, ◌∙◌, ◌+◌, ℕ}
+use Rattle.std.proofs.Common.{◌≡◌, suc, arith, refl, sym, subst, ◌∙◌, ◌+◌, ℕ}
 use Rattle.infer_scopes.specs.Prefix.{IsPrefix}
-use Rattle.sml_infer.specs.Going.{now, Keeps, IsGoing}
+use Rattle.sml_infer.specs.Going.{now}
 use Rattle.sml_infer.proofs.PassFacts.{keeps_same, keeps_then, going_as}
 use Rattle.sml_infer.proofs.passes.close_rest.Goals as goal
 

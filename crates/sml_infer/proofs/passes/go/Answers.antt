@@ -1,6 +1,6 @@
 use Rattle.std.proofs.Common.{◌≡◌, arith, refl, sym, subst, ◌∙◌, ℕ, Err}
 use Rattle.infer_scopes.specs.Prefix.{IsPrefix}
-use Rattle.sml_infer.specs.Going.{now, Keeps, IsGoing}
+use Rattle.sml_infer.specs.Going.{now}
 use Rattle.sml_infer.proofs.PassFacts.{keeps_same, keeps_then, going_as, untypable_as}
 use Rattle.sml_infer.proofs.passes.go.Goals as goal
 

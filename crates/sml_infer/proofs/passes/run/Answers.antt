@@ -1,4 +1,4 @@
-use Rattle.std.proofs.Common.{◌≤◌, arith, refl, sym, subst, ◌∙◌, ℕ, length}
+use Rattle.std.proofs.Common.{arith, refl, sym, subst, ◌∙◌, ℕ, length}
 use Rattle.infer_scopes.specs.Prefix.{IsPrefix}
 use Rattle.sml_infer.specs.Going.{now}
 use Rattle.sml_infer.proofs.PassFacts.{keeps_then, going_as}

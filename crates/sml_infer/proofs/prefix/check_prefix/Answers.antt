@@ -1,4 +1,4 @@
-use Rattle.std.proofs.Common.{◌≤◌, arith}
+use Rattle.std.proofs.Common.{arith}
 use Rattle.sml_infer.proofs.prefix.check_prefix.Goals as goal
 
 pub returns : goal.returns

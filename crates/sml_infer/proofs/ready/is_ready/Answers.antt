@@ -1,4 +1,4 @@
-use Rattle.std.proofs.Common.{Some, None, true, sym, subst}
+use Rattle.std.proofs.Common.{sym, subst}
 use Rattle.sml_tree.specs.declared.bare.Node.{Node}
 use Rattle.infer_state.specs.Fits.{settled_at}
 use Rattle.infer_state.specs.Typings.{IsReady}

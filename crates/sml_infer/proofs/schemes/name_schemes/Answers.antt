@@ -1,7 +1,7 @@
-use Rattle.std.proofs.Common.{rules, ◌≡◌, ◌++◌, [], ◌∷◌, List, length, sym, subst}
+use Rattle.std.proofs.Common.{rules, ◌≡◌, ◌++◌, [], ◌∷◌, List, sym, subst}
 use Rattle.sml_types.specs.declared.scheme.NameScheme.{NameScheme}
 use Rattle.sml_infer.specs.Schemes.{IsNamed, AreNamed}
-use Rattle.sml_infer.proofs.Naming.{longer_same, longer_then, ready_more, count_more, named_more}
+use Rattle.sml_infer.proofs.Naming.{longer_then, ready_more, count_more, named_more}
 use Rattle.sml_infer.proofs.schemes.name_schemes.Goals as goal
 
 pub names-preserved : goal.names-preserved
