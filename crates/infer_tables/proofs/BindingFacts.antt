@@ -85,7 +85,7 @@ module _ (p : Bare) (old new : List TyForm) (k : Known) (scope : IsScope p old k
   Asked t = IsTypeBinding p t b
 
   more : (s : Scheme) → Extends k (added k s)
-  more s = record { names = λ n row q. q; schemes = λ i x q. get_more k.abbreviations (s ∷ []) i x q; stands = refl }
+  more s = record { names = λ n row q. q; schemes = λ i x q. get_more k.abbreviations (s ∷ []) i x q }
 
   pub binding_added : (s : Scheme) → AreOldVars old new → s.vars ≡ all_explicit p.tyvars b.params → b.number ≡ length k.abbreviations → IsCovered p new k s.vars b.ty s.body → IsStep p Asked 0 old k new (added k s)
   binding_added s vars is number c =
@@ -93,7 +93,7 @@ module _ (p : Bare) (old new : List TyForm) (k : Known) (scope : IsScope p old k
       let later = scope_longer p old new k longer scope in
       record {
         longer = longer;
-        vars = vars;
+        vars = λ i v e. (i, vars i v e);
         extends = more s;
         count = omega arith;
         scope =

@@ -188,7 +188,7 @@ module _ (p : Bare) (types : AreBareTypes p) (forms : List TyForm) (k : Known) (
 
   module _ (count : ℕ) (after : List TyForm) (k2 : Known) (step : IsStep p (All count) (length (made_below p.nodes count)) forms k after k2) where
     below_after : AreBelow after next
-    below_after i v e = let l = s.below i v (step.vars i v e) in let c = s.counter in omega arith
+    below_after i v e = let x = step.vars i v e in let l = s.below x.0 v x.1 in let c = s.counter in omega arith
 
     names_count : length k2.tables.names ≡ length library_names + length (made_below p.nodes count)
     names_count = step.count ∙ ap (λ (ns : List TypeName). length ns + length (made_below p.nodes count)) s.names
@@ -272,7 +272,8 @@ module _ (p : Bare) (types : AreBareTypes p) (forms : List TyForm) (k : Known) (
 
     keeps_marks : (t : Typing) → Respects k2.tables.names after (starting t)
     keeps_marks t i v e m =
-        let l = s.marked i v (step.vars i v e) m in
+        let x = step.vars i v e in
+        let l = s.marked x.0 v x.1 m in
         ap (admits k2.tables.names) (explicit_stay t v (omega arith)) ∙ m
 
     identity : (v : TyVar) → meant after [] v ≡ Variable v

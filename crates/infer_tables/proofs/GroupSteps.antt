@@ -133,7 +133,7 @@ module _ (p : Bare) (old new : List TyForm) (k : Known) (scope : IsScope p old k
             })
 
     extends : Extends k after
-    extends = record { names = old_at; schemes = λ i s q. q; stands = refl }
+    extends = record { names = old_at; schemes = λ i s q. q }
 
     scope_after : IsScope p new after
     scope_after =
@@ -240,7 +240,7 @@ module _ (p : Bare) (old new : List TyForm) (k : Known) (scope : IsScope p old k
     group_added vars greatest =
         record {
           longer = longer;
-          vars = vars;
+          vars = λ i v e. (i, vars i v e);
           extends = extends;
           count = count ∙ ap (λ n. length k.tables.names + n) (sym (numbers_count bs));
           scope = scope_after;

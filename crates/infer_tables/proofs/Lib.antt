@@ -9,5 +9,6 @@ mod Greatest
 mod GroupFacts
 mod GroupSteps
 mod RowFacts
+mod RenewFacts
 mod NodeFacts
 mod DeclareFacts

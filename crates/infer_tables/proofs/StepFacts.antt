@@ -37,10 +37,10 @@ has_allows forms k t h =
     }
 
 extends_same : (k : Known) → Extends k k
-extends_same k = record { names = λ n row q. q; schemes = λ i s q. q; stands = refl }
+extends_same k = record { names = λ n row q. q; schemes = λ i s q. q }
 
 extends_then : (a b c : Known) → Extends a b → Extends b c → Extends a c
-extends_then a b c d e = record { names = λ n row q. e.names n row (d.names n row q); schemes = λ i s q. e.schemes i s (d.schemes i s q); stands = e.stands ∙ d.stands }
+extends_then a b c d e = record { names = λ n row q. e.names n row (d.names n row q); schemes = λ i s q. e.schemes i s (d.schemes i s q) }
 
 -- ---- No step, and two
 
@@ -48,7 +48,7 @@ pub no_step : (p : Bare) (asks : Typing → Type 0) (forms : List TyForm) (k : K
 no_step p asks forms k scope all =
     record {
       longer = longer_same forms;
-      vars = λ i v q. q;
+      vars = λ i v q. (i, q);
       extends = extends_same k;
       count = omega arith;
       scope = scope;
@@ -60,7 +60,7 @@ pub step_then : (p : Bare) (asks asks2 both : Typing → Type 0) (m n : ℕ) (fa
 step_then p asks asks2 both m n fa fb fc a b c join part s r =
     record {
       longer = longer_then fa fb fc s.longer r.longer;
-      vars = λ i v q. s.vars i v (r.vars i v q);
+      vars = λ i v q. let x = r.vars i v q in s.vars x.0 v x.1;
       extends = extends_then a b c s.extends r.extends;
       count = let x = s.count in let y = r.count in omega arith;
       scope = r.scope;

@@ -6,6 +6,8 @@ use Rattle.sml_tree.specs.declared.bare.Node.{Node}
 use Rattle.sml_tree.specs.declared.bare.Node.TheVariants as node
 use Rattle.sml_types.specs.declared.types.Ty.{Ty}
 use Rattle.sml_types.specs.declared.types.TyForm.{TyForm}
+use Rattle.sml_types.specs.declared.types.TyForm.TheVariants.{Var}
+use Rattle.sml_types.specs.declared.types.TyVar.{TyVar}
 use Rattle.sml_types.specs.declared.scheme.Scheme.{Scheme}
 use Rattle.sml_types.specs.declared.tables.TypeName.{TypeName}
 use Rattle.sml_types.specs.Tree.{Head, NameHead, Tree, Variable, App, NoParts, Part}
@@ -15,7 +17,6 @@ use Rattle.sml_types.specs.TypeExps.{explicit}
 use Rattle.sml_types.specs.Equality.{IsGreatest}
 use Rattle.sml_types.specs.Typing.{Typing, type_numbers, IsTypeBinding, IsDatBinding}
 use Rattle.sml_unify.specs.Steps.{IsLonger}
-use Rattle.infer_parts.specs.Copies.{AreOldVars}
 use Rattle.infer_parts.specs.Written.{AreThere, AreAbbreviations, IsClosedScheme}
 use Rattle.infer_tables.specs.declared.known.Known.{Known}
 use Rattle.infer_tables.specs.Declare.{IsClosedRow}
@@ -75,12 +76,15 @@ Asks p t _ = Unit {0}
 pub record Extends (before after : Known) : Type 0 where
   pub names : (n : ℕ) (row : TypeName) → slice_get before.tables.names n ≡ Some row → slice_get after.tables.names n ≡ Some row
   pub schemes : (n : ℕ) (s : Scheme) → slice_get before.abbreviations n ≡ Some s → slice_get after.abbreviations n ≡ Some s
-  pub stands : after.stands ≡ before.stands
+
+-- the variables of the later forms stand in the earlier ones
+abbrev pub HaveVars : List TyForm → List TyForm → Type 0
+HaveVars old new = (i : ℕ) (v : TyVar) → slice_get new i ≡ Some (Var v) → (j : ℕ) × (slice_get old j ≡ Some (Var v))
 
 -- more is known, with this many type names more: a typing that goes on it has what is asked, and one that has what was known and what is asked has this too
 pub record IsStep (p : Bare) (asks : Typing → Type 0) (more : ℕ) (forms : List TyForm) (k : Known) (after : List TyForm) (k2 : Known) : Type 0 where
   pub longer : IsLonger forms after
-  pub vars : AreOldVars forms after
+  pub vars : HaveVars forms after
   pub extends : Extends k k2
   pub count : length k2.tables.names ≡ length k.tables.names + more
   pub scope : IsScope p after k2

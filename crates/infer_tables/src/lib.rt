@@ -10,6 +10,7 @@ mod group;
 pub mod known;
 mod meaning;
 mod nodes;
+mod renew;
 mod starts;
 
 pub use checks::check_types;

@@ -2,17 +2,53 @@
 
 ghost use Rattle.std.specs.Prelude.{◌≡◌, ◌≤◌, IfOk, Some, length, take};
 ghost use Rattle.std.specs.List.{AllByRecursion};
-ghost use Rattle.sml_types.specs.Typing.{made_by, made_below};
+ghost use Rattle.sml_types.specs.Equality.{IsGreatest};
+ghost use Rattle.sml_types.specs.Typing.{made_by, made_below, type_numbers, IsTypeBinding, IsDatBinding};
 ghost use Rattle.infer_tables.specs.Known.{IsScope, IsAnswer, Asks};
 
 use crate::bindings::add_bindings;
 use crate::group::add_group;
 use crate::known::Known;
+use crate::renew::{dat_params, renew, type_params};
 use sml_tree::Bare;
-use sml_tree::bare::Node;
+use sml_tree::bare::{DatBinding, Node, TypeBinding};
 use sml_types::Types;
 use smlc_base::NoMemory;
 use std::alloc::Global;
+
+// The type functions of a `type` declaration, over new forms of its type variables.
+fn add_types(
+    alloc: Global,
+    bare: &Bare,
+    types: &mut Types,
+    known: Known,
+    bindings: &[TypeBinding],
+) -> Result<Option<Known>, NoMemory>
+    requires scope { IsScope bare.now types.old known }
+    ensures { IfOk result (λ o. IsAnswer bare.now (λ t. AllByRecursion (IsTypeBinding bare.now t) bindings.now) 0 types.old known types.new o) }
+{
+    let numbers = type_params(alloc, bindings)?;
+    let renewed = renew(bare, types, known, &numbers)?;
+    let added = add_bindings(alloc, bare, types, renewed, bindings)?;
+    Ok(added)
+}
+
+// The rows of a `datatype` declaration, over new forms of its type variables.
+fn add_datatypes(
+    alloc: Global,
+    bare: &Bare,
+    types: &mut Types,
+    known: Known,
+    bindings: &[DatBinding],
+) -> Result<Option<Known>, NoMemory>
+    requires scope { IsScope bare.now types.old known }
+    ensures { IfOk result (λ o. IsAnswer bare.now (λ t. AllByRecursion (IsDatBinding bare.now t) bindings.now × IsGreatest t.forms t.names (type_numbers bindings.now)) (length (type_numbers bindings.now)) types.old known types.new o) }
+{
+    let numbers = dat_params(alloc, bindings)?;
+    let renewed = renew(bare, types, known, &numbers)?;
+    let added = add_group(alloc, bare, types, renewed, bindings)?;
+    Ok(added)
+}
 
 fn add_node(
     alloc: Global,
@@ -26,11 +62,11 @@ fn add_node(
 {
     match node {
         Node::Type(bindings) => {
-            let added = add_bindings(alloc, bare, types, known, bindings.items())?;
+            let added = add_types(alloc, bare, types, known, bindings.items())?;
             Ok(added)
         }
         Node::Datatype(bindings) => {
-            let added = add_group(alloc, bare, types, known, bindings.items())?;
+            let added = add_datatypes(alloc, bare, types, known, bindings.items())?;
             Ok(added)
         }
         _ => Ok(Some(known)),

@@ -9,10 +9,10 @@ pub returns-in_ok-added-in-Type : goal.returns-in_ok-added-in-Type
 returns-in_ok-added-in-Type c =
     let p = c.args.bare.now in
     subst
-    (λ n. IsAnswer p (λ t. Asks p t n) (length (made_by (Some n))) c.args.types.now c.args.known c.add_bindings.new.types c.in_ok-added-in-Type.added)
+    (λ n. IsAnswer p (λ t. Asks p t n) (length (made_by (Some n))) c.args.types.now c.args.known c.add_types.new.types c.in_ok-added-in-Type.added)
     (sym c.in-Type.is)
     (subst
-    (λ bs. IsAnswer p (λ t. AllByRecursion (IsTypeBinding p t) bs) 0 c.args.types.now c.args.known c.add_bindings.new.types c.in_ok-added-in-Type.added)
+    (λ bs. IsAnswer p (λ t. AllByRecursion (IsTypeBinding p t) bs) 0 c.args.types.now c.args.known c.add_types.new.types c.in_ok-added-in-Type.added)
     c.items.ensures
     c.in_ok-added-in-Type.ensures)
 
@@ -20,9 +20,9 @@ pub returns-in_ok-added-in-Datatype : goal.returns-in_ok-added-in-Datatype
 returns-in_ok-added-in-Datatype c =
     let p = c.args.bare.now in
     subst
-    (λ n. IsAnswer p (λ t. Asks p t n) (length (made_by (Some n))) c.args.types.now c.args.known c.add_group.new.types c.in_ok-added-in-Datatype.added)
+    (λ n. IsAnswer p (λ t. Asks p t n) (length (made_by (Some n))) c.args.types.now c.args.known c.add_datatypes.new.types c.in_ok-added-in-Datatype.added)
     (sym c.in-Datatype.is)
     (subst
-    (λ bs. IsAnswer p (λ t. AllByRecursion (IsDatBinding p t) bs × IsGreatest t.forms t.names (type_numbers bs)) (length (type_numbers bs)) c.args.types.now c.args.known c.add_group.new.types c.in_ok-added-in-Datatype.added)
+    (λ bs. IsAnswer p (λ t. AllByRecursion (IsDatBinding p t) bs × IsGreatest t.forms t.names (type_numbers bs)) (length (type_numbers bs)) c.args.types.now c.args.known c.add_datatypes.new.types c.in_ok-added-in-Datatype.added)
     c.items-in-Datatype.ensures
     c.in_ok-added-in-Datatype.ensures)
