@@ -1,0 +1,4 @@
+use Rattle.text_laws.proofs.one_text.Goals as goal
+
+pub returns : goal.returns
+returns c = ?
