@@ -1,2 +1,4 @@
 pub mod Alike
 pub mod Orders
+pub mod Lines
+pub mod Renamed
