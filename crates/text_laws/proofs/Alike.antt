@@ -1,13 +1,13 @@
 -- Trees that differ in their variables alone have texts that differ in their variables alone.
 use Rattle.std.proofs.Common.{◌≡◌, ◌⊎◌, inl, inr, ℕ, zero, suc, Bool, true, false, List, [], ◌∷◌, ◌++◌, Option, Some, None, refl, sym, ap, ◌∙◌, subst}
-use Rattle.std.specs.Prelude.{slice_get, map, flat_map, codes, ◌&&◌, not, if◌then◌else◌}
+use Rattle.std.specs.Prelude.{slice_get, map, flat_map, codes, not, if◌then◌else◌}
 use Rattle.sml_tree.specs.declared.bare.Lab.{Lab}
 use Rattle.sml_types.specs.declared.types.TyVar.{TyVar}
 use Rattle.sml_types.specs.declared.tables.TypeName.{TypeName}
 use Rattle.sml_types.specs.Tree.{Head, ArrowHead, FieldsHead, NameHead, Tree, Variable, App, NoParts, Part, inst, AllVars}
 use Rattle.sml_types.specs.Escape.{mentions_head, mentions}
 use Rattle.sml_types.specs.Poly.{is_in}
-use Rattle.sml_types.proofs.TreeFacts.{either}
+use Rattle.sml_types.proofs.TreeFacts.{and_both}
 use Rattle.sml_unify.specs.Solved.{Substitution}
 use Rattle.type_text.specs.declared.level.Level.{Level}
 use Rattle.type_text.specs.declared.level.Level.TheVariants.{Function, Product, Atom}
@@ -27,14 +27,6 @@ AreSpelledAlike a b (App h ts) = IsSpelledAlike a b h × AreSpelledAlike a b ts
 AreSpelledAlike a b NoParts = Unit {0}
 AreSpelledAlike a b (Part t ts) = AreSpelledAlike a b t × AreSpelledAlike a b ts
 
-left : (a b : Bool) → (a && b) ≡ true → a ≡ true
-left true b e = refl
-left false b e = cc
-
-right : (a b : Bool) → (a && b) ≡ true → b ≡ true
-right true b e = e
-right false b e = cc
-
 module _ (a b : List TypeName) (ns : List ℕ) (each : (n : ℕ) → is_in ns n ≡ true → spelling (slice_get a n) ≡ spelling (slice_get b n)) where
   head_spelled : (h : Head) → mentions_head ns h ≡ true → IsSpelledAlike a b h
   head_spelled ArrowHead e = tt
@@ -44,9 +36,9 @@ module _ (a b : List TypeName) (ns : List ℕ) (each : (n : ℕ) → is_in ns n 
   -- a type that mentions these type names alone
   pub spelled_alike : (t : Tree) → mentions ns t ≡ true → AreSpelledAlike a b t
   spelled_alike (Variable v) e = tt
-  spelled_alike (App h ts) e = (head_spelled h (left (mentions_head ns h) (mentions ns ts) e), spelled_alike ts (right (mentions_head ns h) (mentions ns ts) e))
+  spelled_alike (App h ts) e = let both = and_both (mentions_head ns h) (mentions ns ts) e in (head_spelled h both.0, spelled_alike ts both.1)
   spelled_alike NoParts e = tt
-  spelled_alike (Part t ts) e = (spelled_alike t (left (mentions ns t) (mentions ns ts) e), spelled_alike ts (right (mentions ns t) (mentions ns ts) e))
+  spelled_alike (Part t ts) e = let both = and_both (mentions ns t) (mentions ns ts) e in (spelled_alike t both.0, spelled_alike ts both.1)
 
 -- ---- Texts that differ in their variables
 

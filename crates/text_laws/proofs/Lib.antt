@@ -1,4 +1,8 @@
-pub mod Alike
-pub mod Orders
-pub mod Lines
-pub mod Renamed
+mod Members
+mod Whole
+mod Known
+mod Alike
+mod Orders
+mod Lines
+mod Renamed
+mod OneText
