@@ -1,5 +1,5 @@
 -- Trees that differ in their variables alone have texts that differ in their variables alone.
-use Rattle.std.proofs.Common.{◌≡◌, ◌⊎◌, inl, inr, ℕ, zero, suc, Bool, true, false, List, [], ◌∷◌, ◌++◌, Option, Some, None, refl, sym, ap, ◌∙◌, subst}
+use Rattle.std.proofs.Common.{◌≡◌, ℕ, Bool, true, false, List, [], ◌∷◌, ◌++◌, refl, sym, subst}
 use Rattle.std.specs.Prelude.{slice_get, map, flat_map, codes, not, if◌then◌else◌}
 use Rattle.sml_tree.specs.declared.bare.Lab.{Lab}
 use Rattle.sml_types.specs.declared.types.TyVar.{TyVar}

@@ -1,6 +1,6 @@
 -- The type names that stand in the types of shown names are spelled alike in each typing.
-use Rattle.std.proofs.Common.{◌≡◌, ◌⊎◌, inl, inr, ℕ, zero, suc, ◌<◌, ◌≤◌, Bool, true, false, List, [], ◌∷◌, ◌++◌, length, Option, Some, None, refl, sym, ap, ◌∙◌, subst, arith}
-use Rattle.std.specs.Prelude.{slice_get, nat_eq, flat_map, filter, take, ◌||◌}
+use Rattle.std.proofs.Common.{◌≡◌, ◌⊎◌, inl, inr, ℕ, zero, suc, ◌<◌, true, List, [], ◌∷◌, ◌++◌, length, Option, Some, None, refl, sym, ap, ◌∙◌, subst, arith}
+use Rattle.std.specs.Prelude.{slice_get, nat_eq, flat_map, take}
 use Rattle.std.specs.List.{AllByRecursion}
 use Rattle.std.proofs.lemmas.Bool.{eqb-true}
 use Rattle.std.proofs.lemmas.Option.{slice_get_within}
@@ -13,11 +13,10 @@ use Rattle.sml_tree.specs.IsBare.{IsBare, lets_of, lets, is_value, dec_at, value
 use Rattle.sml_types.specs.declared.types.TyVar.{TyVar}
 use Rattle.sml_types.specs.declared.types.TyForm.{TyForm}
 use Rattle.sml_types.specs.declared.tables.TypeName.{TypeName}
-use Rattle.sml_types.specs.Tree.{Tree}
-use Rattle.sml_types.specs.Poly.{Context, is_in, with_type_names, with_names}
+use Rattle.sml_types.specs.Poly.{Context, is_in}
 use Rattle.sml_types.specs.Escape.{mentions, AreKnown}
 use Rattle.sml_types.specs.Library.{NameType, name_types, library, library_names}
-use Rattle.sml_types.specs.Typing.{Typing, type_numbers, made_by, IsDatBinding, IsTypedNode, IsTypingBelow}
+use Rattle.sml_types.specs.Typing.{Typing, type_numbers, made_by, IsDatBinding, IsTypingBelow}
 use Rattle.sml_types.proofs.TreeFacts.{either}
 use Rattle.infer_state.specs.Names.{names_bound}
 use Rattle.infer_scopes.proofs.Laws.{binds_are}

@@ -1,10 +1,8 @@
 -- A program's types are told by one text alone.
-use Rattle.std.proofs.Common.{◌≡◌, ◌⊎◌, ℕ, Bool, true, List, [], length, refl, sym, ap, ◌∙◌, subst, arith}
-use Rattle.std.specs.Prelude.{slice_get, map}
+use Rattle.std.proofs.Common.{◌≡◌, ℕ, Bool, true, length, refl, sym, ◌∙◌}
+use Rattle.std.specs.Prelude.{map}
 use Rattle.std.specs.List.{AllByRecursion}
-use Rattle.std.proofs.lemmas.Option.{slice_get_cases}
 use Rattle.sml_tree.specs.declared.bare.Bare.{Bare}
-use Rattle.sml_tree.specs.declared.bare.Node.{Node}
 use Rattle.sml_tree.specs.IsBare.{IsBare, values}
 use Rattle.sml_tree.specs.Sets.{has}
 use Rattle.sml_types.specs.Tree.{AllVars}
@@ -14,7 +12,7 @@ use Rattle.infer_state.specs.Names.{names_bound}
 use Rattle.infer_laws.specs.Principal.{IsBoundBelow, IsInstanceOf, IsPrincipal}
 use Rattle.type_text.specs.declared.level.Level.TheVariants.{Function}
 use Rattle.type_text.specs.Text.{lines}
-use Rattle.text_laws.specs.Tells.{shown_names, entry, AreMarked, Tells, OneText}
+use Rattle.text_laws.specs.Tells.{shown_names, entry, AreMarked, OneText}
 use Rattle.text_laws.proofs.Alike.{spelled_alike, text_alike}
 use Rattle.text_laws.proofs.Lines.{IsPair, IsLineAlike, lines_alike}
 use Rattle.text_laws.proofs.Renamed.{moved, renamed}
@@ -50,7 +48,7 @@ module _ (p : Bare) (bare : IsBare p) (a b : Typing) (here : IsPrincipal p a (le
   names_same marked noted =
       of_members IsSame (shown_names p)
       (λ x e. of_flat (λ d. has (values p.nodes) d ≡ true) (IsSame x) (names_bound p.nodes) p.shown x bare.shown.1 e
-        (λ d value binds. name_same d x value binds (of_member (λ x. AllVars (λ v. v.eq ≡ marks v.num) (a.schemes x).body) (shown_names p) x marked e) (of_member (λ x. AllVars (λ v. v.eq ≡ others v.num) (b.schemes x).body) (shown_names p) x noted e)))
+      (λ d value binds. name_same d x value binds (of_member (λ x. AllVars (λ v. v.eq ≡ marks v.num) (a.schemes x).body) (shown_names p) x marked e) (of_member (λ x. AllVars (λ v. v.eq ≡ others v.num) (b.schemes x).body) (shown_names p) x noted e)))
 
   texts_same : AreMarked a marks (shown_names p) → AreMarked b others (shown_names p) → lines a.names (map (entry p a) (shown_names p)) ≡ lines b.names (map (entry p b) (shown_names p))
   texts_same marked noted =

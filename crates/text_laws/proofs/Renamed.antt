@@ -7,7 +7,6 @@ use Rattle.sml_types.specs.Tree.{Tree, Variable, App, NoParts, Part, inst, admit
 use Rattle.sml_types.specs.Poly.{Poly, has_num, IsInstance}
 use Rattle.sml_types.proofs.TreeFacts.{inst_inst, inst_id}
 use Rattle.sml_unify.specs.Solved.{Substitution}
-use Rattle.infer_state.specs.Rules.{IsCopy}
 use Rattle.infer_laws.specs.Principal.{Leads, IsMoreGeneral}
 use Rattle.infer_laws.proofs.Copies.{vars_map, vars_both}
 use Rattle.text_laws.proofs.Alike.{Becomes}
@@ -95,7 +94,7 @@ module _ (a b : List TypeName) (f g : Substitution) (s u : Poly) where
       let copy = more (inst (raise u.vars) u.body) (raised b u) in (
         copy.at,
         agree (λ v. inst (raise u.vars) (f v)) (λ v. cond (has_num s.vars v.num) (copy.at v) (f v)) s.body
-        (sym (inst_inst (raise u.vars) f s.body) ∙ ap (inst (raise u.vars)) (sym e) ∙ copy.is),
+            (sym (inst_inst (raise u.vars) f s.body) ∙ ap (inst (raise u.vars)) (sym e) ∙ copy.is),
       )
 
 module _ (a b : List TypeName) (f g : Substitution) (m n : ℕ → Bool) (s u : Poly) where
@@ -155,4 +154,3 @@ module _ (a b : List TypeName) (f g : Substitution) (m n : ℕ → Bool) (s u : 
         let down = raised_vars b a g f u s back.1 less in
         vars_map (λ v. IsHere up.0 v × AllVars (IsThere down.0) (f v)) (Becomes f (IsPair (moved f m) (moved g n) (has_num s.vars) (has_num u.vars))) s.body (becomes up.0 down.0)
         (vars_both _ _ s.body (here up.0 up.1) (vars_under (IsThere down.0) f s.body (subst (λ (t : Tree). AllVars (IsThere down.0) t) forth.1 (there down.0 down.1))))
-
