@@ -21,19 +21,11 @@ use Rattle.sml_types.proofs.TreeFacts.{either}
 use Rattle.infer_state.specs.Names.{names_bound}
 use Rattle.infer_scopes.proofs.Laws.{binds_are}
 use Rattle.type_text.specs.Text.{spelling}
+use Rattle.text_laws.proofs.Spellings.{row_spelling, spelling_is}
 use Rattle.text_laws.proofs.Members.{never, of_member, in_either, of_kept}
 use Rattle.text_laws.proofs.Whole.{whole}
 
 -- ---- Type names of the library
-
-abbrev row_spelling : Option NameType → List ℕ
-row_spelling None = []
-row_spelling (Some row) = row.text
-
-spelling_is : (forms : List TyForm) (names : List TypeName) (n : ℕ) → spelling (slice_get names n) ≡ row_spelling (slice_get (name_types forms names) n)
-spelling_is forms [] n = refl
-spelling_is forms (x ∷ names) zero = refl
-spelling_is forms (x ∷ names) (suc n) = spelling_is forms names n
 
 first_rows : (k n : ℕ) (rows : List NameType) → n < k → slice_get (take k rows) n ≡ slice_get rows n
 first_rows zero n rows l = absurd (omega (arith, l))

@@ -1,3 +1,4 @@
+pub mod Spellings
 mod Members
 mod Whole
 mod Known
