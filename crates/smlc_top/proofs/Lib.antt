@@ -20,7 +20,6 @@ pub mod Walks
 pub mod Held
 pub mod Fronts
 pub mod Pieces
-pub mod Spellings
 pub mod Named
 pub mod Marks
 pub mod Telling

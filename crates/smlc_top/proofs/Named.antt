@@ -13,7 +13,7 @@ use Rattle.sml_tree.specs.IsBare.{IsBare, Stands}
 use Rattle.sml_types.specs.Typing.{group_names}
 use Rattle.infer_state.specs.Names.{names_of_fields, names_of_bindings, names_of, names_bound}
 use Rattle.infer_parts.proofs.Forms.{at_all}
-use Rattle.smlc_top.specs.Types.{shown_names}
+use Rattle.text_laws.specs.Tells.{shown_names}
 
 module _ (p : Bare) where
   abbrev pub AreNames : List ℕ → Type 0

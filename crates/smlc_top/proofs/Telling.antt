@@ -18,8 +18,9 @@ use Rattle.smlc_top.specs.declared.types.Shown.{Shown}
 use Rattle.smlc_top.specs.declared.types.Shown.TheVariants.{Text, Refused, NoMemory}
 use Rattle.smlc_base.specs.declared.refusal.Refusal.{Refusal}
 use Rattle.smlc_top.specs.Front.{HasTree, IsUntyped}
-use Rattle.smlc_top.specs.Types.{shown_names, entry, AreMarked, Tells, IsShown, IsTold, IsRefusal}
-use Rattle.smlc_top.proofs.Spellings.{same_spellings, lines_same}
+use Rattle.text_laws.specs.Tells.{shown_names, entry, AreMarked, Tells}
+use Rattle.smlc_top.specs.Types.{IsShown, IsTold, IsRefusal}
+use Rattle.text_laws.proofs.Spellings.{same_spellings, lines_same}
 use Rattle.smlc_top.proofs.Named.{AreNames, names_stand}
 use Rattle.smlc_top.proofs.Marks.{mark, tree_marked}
 

@@ -4,7 +4,8 @@ ghost use Rattle.std.specs.Prelude.{◌≡◌, ◌<◌, ◌^◌, length, map, If
 ghost use Rattle.sml_tree.specs.BareParts.{IsNumbered};
 ghost use Rattle.sml_tree.specs.IsBare.{IsBare};
 ghost use Rattle.sml_infer.specs.Typing.{IsInferred};
-ghost use Rattle.smlc_top.specs.Types.{shown_names, IsShown, IsTold, IsRefusal, Tells};
+ghost use Rattle.smlc_top.specs.Types.{IsShown, IsTold, IsRefusal};
+ghost use Rattle.text_laws.specs.Tells.{shown_names, Tells};
 
 use crate::front::typed_of;
 use crate::outcome::refused_text;

@@ -2,7 +2,7 @@ use Rattle.std.proofs.Common.{◌≡◌, ◌<◌, ℕ, List, length, map, sym, a
 use Rattle.std.specs.Prelude.{All}
 use Rattle.std.proofs.lemmas.Result.{IfOk-weaker}
 use Rattle.smlc_base.specs.declared.names.Name.{Name}
-use Rattle.smlc_top.specs.Types.{shown_names}
+use Rattle.text_laws.specs.Tells.{shown_names}
 use Rattle.smlc_top.proofs.Named.{names_stand}
 use Rattle.smlc_top.proofs.Telling.{all_there, tells}
 use Rattle.smlc_top.proofs.types.text_of.Goals as goal

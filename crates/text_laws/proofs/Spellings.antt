@@ -13,11 +13,11 @@ use Rattle.type_text.specs.Text.{Item, spelling, head_text, named_text, type_tex
 
 -- ---- Tables with the same rows have the same spellings
 
-abbrev row_spelling : Option NameType → List ℕ
+abbrev pub row_spelling : Option NameType → List ℕ
 row_spelling None = []
 row_spelling (Some row) = row.text
 
-spelling_is : (forms : List TyForm) (names : List TypeName) (n : ℕ) → spelling (slice_get names n) ≡ row_spelling (slice_get (name_types forms names) n)
+pub spelling_is : (forms : List TyForm) (names : List TypeName) (n : ℕ) → spelling (slice_get names n) ≡ row_spelling (slice_get (name_types forms names) n)
 spelling_is forms [] n = refl
 spelling_is forms (x ∷ names) zero = refl
 spelling_is forms (x ∷ names) (suc n) = spelling_is forms names n
