@@ -1,5 +1,5 @@
 #!/usr/bin/env bash
-# Compares with GNU as and ld what the tests of rv_isa and rv_asm expect: the word in each row of the
+# Compares with GNU as and ld what the tests of the encodings and of the assembler expect: the word in each row of the
 # instruction table, and the bytes of the small program. The lines of assembly stand in their comments.
 # Where the tools are missing, it says so and ends with 0.
 set -euo pipefail
@@ -15,10 +15,10 @@ assemble() {
     "$tools-objcopy" -O binary -j .text "$folder/$1.elf" "$folder/$1.bin"
 }
 
-# one word each line, from rows like '(Ins::plain(Op::Ecall), 0x00000073), // ecall'
+# one word each line, from rows like '(Op::Ecall, [0, 0, 0], 0, 0x00000073), // ecall'
 instructions() {
-    local table=crates/rv_isa/src/tests.rt rows mnemonics
-    sed -nE 's|^ *\(Ins::.*, 0x([0-9a-f]{8})\), // (.*)$|\1 \2|p' "$table" > "$folder/rows"
+    local table=crates/machine_tests/src/words.rt rows mnemonics
+    sed -nE 's|^ *\(Op::.*, 0x([0-9a-f]{8})\), // (.*)$|\1 \2|p' "$table" > "$folder/rows"
     rows=$(wc -l < "$folder/rows")
     mnemonics=$(sed -n '/^pub enum Op/,/^}/p' crates/rv_isa/src/table.rt | grep -cE '^ +[A-Z][a-z]+,$')
     if [ "$rows" -ne "$mnemonics" ]; then
@@ -35,7 +35,7 @@ instructions() {
 
 # the bytes of the constant BYTES, each line of them behind its line of assembly
 program() {
-    local table=crates/rv_asm/src/tests.rt
+    local table=crates/machine_tests/src/assembly.rt
     sed -n '/^const BYTES/,/^\];/p' "$table" > "$folder/block"
     sed -nE 's|^ *// (.*)$|\1|p' "$folder/block" > "$folder/program.s"
     grep -oE '0x[0-9a-f]{2},' "$folder/block" | tr -d 'x,' | cut -c2- > "$folder/expected"

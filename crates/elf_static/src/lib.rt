@@ -20,6 +20,3 @@ pub use error::{ElfError, ElfKind};
 pub use image::{Entries, EntryRow, Image, Segment};
 pub use reading::read_elf;
 pub use writing::write_elf;
-
-#[cfg(test)]
-mod tests;

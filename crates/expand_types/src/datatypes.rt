@@ -33,7 +33,7 @@ struct NewConstructor {
 }
 
 /// What `datatype` bindings come to, in order: the bindings, the identifiers of the constructors, and what these stand for.
-#[derive(Debug, Drop)]
+#[derive(Drop)]
 struct Datatypes {
     bindings: Row<DatBinding>,
     idents: Row<Ident>,

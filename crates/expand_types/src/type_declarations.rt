@@ -21,7 +21,7 @@ use smlc_base::{NoMemory, Place, Row};
 use std::alloc::Global;
 
 /// What `type` bindings come to, in order: the bindings, their identifiers, and what these stand for.
-#[derive(Debug, Drop)]
+#[derive(Drop)]
 struct TypeBindings {
     bindings: Row<TypeBinding>,
     idents: Row<Ident>,

@@ -5,6 +5,7 @@ use Rattle.std.specs.List.{AllByRecursion}
 use Rattle.sml_tree.specs.declared.bare.Con.{Con}
 use Rattle.sml_tree.specs.declared.bare.Con.TheVariants as con
 use Rattle.sml_tree.specs.declared.bare.Node.{Node}
+use Rattle.sml_tree.specs.declared.bare.Node.TheVariants as node
 use Rattle.sml_tree.specs.declared.bare.Field.{Field}
 use Rattle.sml_tree.specs.declared.bare.RecBinding.{RecBinding}
 use Rattle.sml_tree.specs.BareParts.{IsNumbered}
@@ -18,7 +19,7 @@ use Rattle.sml_expansion.specs.Forests.{Forest, size, roots, with_parts, fields_
 use Rattle.expansion_laws.proofs.Contexts.{Among, Context, with_vars, ConIn, among_split}
 use Rattle.expansion_laws.proofs.Forms as f
 use Rattle.expansion_laws.proofs.Forms.{Sizes, Is, Part}
-use Rattle.expansion_laws.proofs.Joined.{counted, counted_patterns}
+use Rattle.expansion_laws.proofs.Joined.{counted, counted_patterns, counted_call}
 use Rattle.expansion_laws.proofs.Positions.{At}
 use Rattle.expansion_laws.proofs.Sorts.{counted_functions, many_roots, many_fields, many_rec, rec_of}
 
@@ -38,7 +39,7 @@ within_one vs y a x h = either (nat_eq x y) false (Among x vs) h (λ e. subst (�
 within_con : (g : Context) (c : Con) → ConIn g c → Within g.vars (exception_of c)
 within_con g (con.Data t number takes) h = within_none g.vars
 within_con g con.Ref h = within_none g.vars
-within_con g (con.Exn x takes) h = within_one g.vars x.0 h
+within_con g (con.Exn x takes) h = within_one g.vars x.0 h.0
 within_con g (con.Library e) h = within_none g.vars
 
 one_has : (x y : ℕ) → x ≡ y → has (y ∷ []) x ≡ true
@@ -90,6 +91,7 @@ module _ (nodes : List Node) (num : IsNumbered nodes) where
   BoundOf g (f.declaration a h) t = NodeWithin g.vars a t × ((j : ℕ) → At nodes j t → (x : ℕ) → Among x h.vars → (has (binds_of (binds nodes) (with_parts a (roots j t))) x ≡ true) ⊎ Among x g.vars)
   BoundOf g (f.expressions j) t = (i : ℕ) → At nodes i t → AllWithin g.vars (roots i t)
   BoundOf g (f.functions j) t = (i : ℕ) → At nodes i t → AllWithin g.vars (roots i t)
+  BoundOf g f.call t = (i : ℕ) → At nodes i t → AllWithin g.vars (roots i t)
   BoundOf g (f.patterns j xs) t = ((i : ℕ) → At nodes i t → AllWithin g.vars (roots i t)) × ((i : ℕ) → At nodes i t → (x : ℕ) → Among x xs → AnyBinds (roots i t) x)
   BoundOf g f.rules t = (i : ℕ) → At nodes i t → Within g.vars (free_match (binds nodes) (free nodes) (rules_at (roots i t)))
   BoundOf g (f.bindings j xs) t = ((i : ℕ) → At nodes i t → Within g.vars (union_over (λ b. union (free nodes b.pat) (free nodes b.right)) (bindings_at (roots i t)))) × ((i : ℕ) → At nodes i t → (x : ℕ) → Among x xs → has (union_over (λ b. binds nodes b.pat) (bindings_at (roots i t))) x ≡ true)
@@ -210,11 +212,14 @@ module _ (nodes : List Node) (num : IsNumbered nodes) where
   bound_of g r t (f.is_int i o) = λ j at. within_none g.vars
   bound_of g r t (f.is_char c o) = λ j at. within_none g.vars
   bound_of g r t (f.is_text x o) = λ j at. within_none g.vars
-  bound_of g r t (f.is_builtin b) = λ j at. within_none g.vars
-  bound_of g r t (f.is_variable x o) = λ j at. within_one g.vars x o
-  bound_of g r t (f.is_constructor c o) = λ j at. within_con g c o
+  bound_of g r t (f.is_builtin b e) = λ j at. within_none g.vars
+  bound_of g r t (f.is_variable x o) = λ j at. within_one g.vars x o.0
+  bound_of g r t (f.is_constructor c o e) = λ j at. within_con g c o
   bound_of g r t (f.is_record labs o h) = λ j at. fields_within g.vars (roots j t) (fields labs) (many_fields labs j t (counted h)) (bound_of g (f.expressions (length labs)) t h j at)
-  bound_of g r t (f.is_app h) = λ j at. two_within g.vars (roots j t) (many_roots j t ∙ counted h) (bound_of g (f.expressions 2) t h j at)
+  bound_of g r t (f.is_app h) = λ j at. two_within g.vars (roots j t) (many_roots j t ∙ counted_call h) (bound_of g f.call t h j at)
+  bound_of g r t (f.call_expression h) = λ i at. bound_of g (f.expressions 2) t h i at
+  bound_of g r t (f.call_constructor {f = rest} c o h) = λ k at. (free_at g.vars k (node.Constructor c) at.0 (within_con g c o), bound_of g (f.expressions 1) rest h (suc (k + 0)) at.2)
+  bound_of g r t (f.call_builtin {f = rest} b h) = λ k at. (free_at g.vars k (node.Builtin b) at.0 (within_none g.vars), bound_of g (f.expressions 1) rest h (suc (k + 0)) at.2)
   bound_of g r t (f.is_case {a = a} {parts = parts} {rest = rest} h i) = λ j at.
       within_union g.vars (free nodes j) (free_match (binds nodes) (free nodes) (rules_at (roots (suc (j + size parts)) rest)))
       (free_at g.vars j (with_parts a (roots (suc j) parts)) at.0 (bound_of g (f.expression a) parts h (suc j) at.1)) (bound_of g f.rules rest i (suc (j + size parts)) at.2)

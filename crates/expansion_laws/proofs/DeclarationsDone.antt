@@ -26,7 +26,7 @@ use Rattle.sml_expansion.specs.Types.{type_of}
 use Rattle.sml_expansion.specs.Patterns.{idents_once, not_fixed, env_of}
 use Rattle.sml_expansion.specs.TypeVariables.{new_tyvars, opens, params, only_params, in_scope, numbers_of, tyvars, once, keys_of, bound_again}
 use Rattle.sml_expansion.specs.Bindings.{Decs, type_bindings, type_dec, new_datatypes, constructors, NewCon, has, con_meanings, DatDecs, datatypes, type_env, first_number, none_fixed, datatype_dec, ExDecs, exception_of, renaming_of, unbound, exceptions, exception_dec}
-use Rattle.expansion_laws.proofs.Contexts.{Among, Context, with_vars, with_cons, ConIn, MeaningIn, EnvIn, ScopeIn, Wider, wider_same, wider_vars, wider_cons, wider_both, env_wider, env_both, among_left, among_right}
+use Rattle.expansion_laws.proofs.Contexts.{Among, Context, with_vars, with_cons, ConIn, MeaningIn, EnvIn, ScopeIn, Wider, wider_same, wider_vars, wider_cons, wider_both, env_wider, env_both, among_left, among_right, with_exception, wider_exception}
 use Rattle.expansion_laws.proofs.Forms as f
 use Rattle.expansion_laws.proofs.Forms.{Sizes, Quiet, Names, Is, before, after, cons_from, data_cons, DatasIn, ArgIn, declarations}
 use Rattle.expansion_laws.proofs.Growing.{Grows, grows_same, grows_both, breaks_grows, breaks_quiet, name_grows, name_names, tyvar_grows, tyvar_number, TyvarsIn, tyvars_on, ends_back, Done}
@@ -57,9 +57,9 @@ pub env_reverse : (g : Context) (xs : List (ℕ × Meaning)) → EnvIn g xs → 
 env_reverse g xs a = all_reverse (λ b. MeaningIn g b.1) xs a
 
 -- what a pattern binds is in scope under it
-vars_env : (g : Context) (vars : List Bound) → AllByRecursion (λ v. Among v.name g.vars) vars → EnvIn g (map (λ v. (v.ident.key, Variable (record { 0 = v.name }))) vars)
-vars_env g [] h = tt
-vars_env g (v ∷ vars) h = (h.0, vars_env g vars h.1)
+vars_env : (g : Context) (vars : List Bound) → AllByRecursion (λ v. Among v.name g.vars) vars → AllByRecursion (λ v. Among v.name g.plain) vars → EnvIn g (map (λ v. (v.ident.key, Variable (record { 0 = v.name }))) vars)
+vars_env g [] h i = tt
+vars_env g (v ∷ vars) h i = ((h.0, i.0), vars_env g vars h.1 i.1)
 
 vars_among : (front : List ℕ) (rest : List ℕ) (vars : List Bound) → AllByRecursion (λ v. Among v.name (front ++ (map (λ v. v.name) vars ++ rest))) vars
 vars_among front rest [] = tt
@@ -75,7 +75,7 @@ vars_among front rest (v ∷ vars) = (
 pub bound_env : (g : Context) (vars : List Bound) → EnvIn (with_vars (map (λ v. v.name) vars) g) (env_of vars).values
 bound_env g vars =
     env_reverse (with_vars (map (λ v. v.name) vars) g) (map (λ v. (v.ident.key, Variable (record { 0 = v.name }))) vars)
-    (vars_env (with_vars (map (λ v. v.name) vars) g) vars (vars_among [] g.vars vars))
+    (vars_env (with_vars (map (λ v. v.name) vars) g) vars (vars_among [] g.vars vars) (vars_among [] g.plain vars))
 
 -- a scope with more bindings
 pub scope_within : {g h : Context} {s : Scope} (e : Env) → Wider g h → EnvIn h e.values → ScopeIn g s → ScopeIn h (within s e)
@@ -337,23 +337,23 @@ names_quiet a q = record { from = a.from; names = q.names ∙ a.names; datas = q
 
 exception_in : {z : Sizes} {m n : Made} (p : Place) (i : Ident) (x : ℕ) (arg : Option ℕ) (g : Context) → Names m (x ∷ []) n → ArgIn z.types arg → DecsIn z m n (exception_of p i x arg).forest (exception_of p i x arg).values g
 exception_in p i x arg g e a = record {
-  after = with_vars (x ∷ []) g;
+  after = with_exception x g;
   is = f.more_declarations (f.is_exception x arg e a) f.no_declaration;
-  env = (inl refl, tt);
-  wider = wider_vars (x ∷ []) g;
+  env = ((inl refl, inl refl), tt);
+  wider = wider_exception x g;
 }
 
 renaming_in : {z : Sizes} {m n : Made} (p : Place) (i : Ident) (x : ℕ) (o : Option Meaning) (g : Context) → Names m (x ∷ []) n → ((v : Meaning) → o ≡ Some v → MeaningIn g v) → DecsIn z m n (renaming_of p i x o).forest (renaming_of p i x o).values g
-renaming_in p i x None g e h = record { after = with_vars (x ∷ []) g; is = f.more_declarations (f.not_exception x e) f.no_declaration; env = (inl refl, tt); wider = wider_vars (x ∷ []) g }
-renaming_in p i x (Some (Variable y)) g e h = record { after = with_vars (x ∷ []) g; is = f.more_declarations (f.not_exception x e) f.no_declaration; env = (inl refl, tt); wider = wider_vars (x ∷ []) g }
-renaming_in p i x (Some (Builtin y)) g e h = record { after = with_vars (x ∷ []) g; is = f.more_declarations (f.not_exception x e) f.no_declaration; env = (inl refl, tt); wider = wider_vars (x ∷ []) g }
+renaming_in p i x None g e h = record { after = with_exception x g; is = f.more_declarations (f.not_exception x e) f.no_declaration; env = ((inl refl, inl refl), tt); wider = wider_exception x g }
+renaming_in p i x (Some (Variable y)) g e h = record { after = with_exception x g; is = f.more_declarations (f.not_exception x e) f.no_declaration; env = ((inl refl, inl refl), tt); wider = wider_exception x g }
+renaming_in p i x (Some (Builtin y)) g e h = record { after = with_exception x g; is = f.more_declarations (f.not_exception x e) f.no_declaration; env = ((inl refl, inl refl), tt); wider = wider_exception x g }
 renaming_in {z} {m} {n} p i x (Some (Constructor c)) g e h = go c (h (Constructor c) refl)
   where
     go : (c : Con) → ConIn g c → DecsIn z m n (renaming_of p i x (Some (Constructor c))).forest (renaming_of p i x (Some (Constructor c))).values g
-    go (con.Data t number takes) a = record { after = with_vars (x ∷ []) g; is = f.more_declarations (f.not_exception x e) f.no_declaration; env = (inl refl, tt); wider = wider_vars (x ∷ []) g }
-    go con.Ref a = record { after = with_vars (x ∷ []) g; is = f.more_declarations (f.not_exception x e) f.no_declaration; env = (inl refl, tt); wider = wider_vars (x ∷ []) g }
-    go (con.Exn y takes) a = record { after = with_vars (x ∷ []) g; is = f.more_declarations (f.same_exception x (con.Exn y takes) e a) f.no_declaration; env = (inl refl, tt); wider = wider_vars (x ∷ []) g }
-    go (con.Library y) a = record { after = with_vars (x ∷ []) g; is = f.more_declarations (f.same_exception x (con.Library y) e a) f.no_declaration; env = (inl refl, tt); wider = wider_vars (x ∷ []) g }
+    go (con.Data t number takes) a = record { after = with_exception x g; is = f.more_declarations (f.not_exception x e) f.no_declaration; env = ((inl refl, inl refl), tt); wider = wider_exception x g }
+    go con.Ref a = record { after = with_exception x g; is = f.more_declarations (f.not_exception x e) f.no_declaration; env = ((inl refl, inl refl), tt); wider = wider_exception x g }
+    go (con.Exn y takes) a = record { after = with_exception x g; is = f.more_declarations (f.same_exception x (con.Exn y takes) e a) f.no_declaration; env = ((inl refl, inl refl), tt); wider = wider_exception x g }
+    go (con.Library y) a = record { after = with_exception x g; is = f.more_declarations (f.same_exception x (con.Library y) e a) f.no_declaration; env = ((inl refl, inl refl), tt); wider = wider_exception x g }
 
 exceptions_done : (z : Sizes) (s : Scope) (p : Place) (t : Term) → Kinded z.texts ExBinds t → (m : Made) → TyvarsIn s m → ExDone z s m (exceptions s p t m)
 exceptions_done z s p t (k.ex_bind q v) m w =

@@ -9,16 +9,17 @@ use Rattle.sml_tree.specs.declared.bare.Lab.{Lab}
 use Rattle.sml_tree.specs.declared.bare.Lab.TheVariants.{Num}
 use Rattle.sml_tree.specs.declared.bare.Node.{Node}
 use Rattle.sml_tree.specs.declared.bare.Node.TheVariants as node
+use Rattle.sml_tree.specs.IsBare.{Consecutive}
 use Rattle.sml_expansion.specs.declared.made.Made.{Made}
 use Rattle.sml_expansion.specs.Makings.{new_name}
 use Rattle.sml_expansion.specs.Forests.{Forest, none, tree, grown, count, ◌&◌}
 use Rattle.sml_expansion.specs.Bare as bare
 use Rattle.sml_expansion.specs.Labels.{numbers, lab_eq, doubles}
-use Rattle.expansion_laws.proofs.Contexts.{Among, Context, with_vars, base_cons, Wider, wider_vars, wider_both, wider_same}
+use Rattle.expansion_laws.proofs.Contexts.{Among, Context, VariableIn, with_vars, base_cons, Wider, variable_wider, wider_vars, wider_both, wider_same}
 use Rattle.expansion_laws.proofs.Forms as f
-use Rattle.expansion_laws.proofs.Forms.{Sizes, Quiet, Names, From, LabelsOnce, Part, Is, expression, function, pattern, declaration, expressions, functions, patterns, rules, bindings, declarations, before, after}
+use Rattle.expansion_laws.proofs.Forms.{Sizes, Quiet, Names, LabelsOnce, Part, Is, expression, function, pattern, declaration, expressions, functions, patterns, rules, bindings, declarations, before, after}
 use Rattle.expansion_laws.proofs.Growing.{name_names}
-use Rattle.expansion_laws.proofs.Joined.{alone, one_expression, one_pattern, one_function, join, join_patterns, join_rules, counted, counted_patterns, app_form, case_form, rule_form, con_form, con_pattern_form}
+use Rattle.expansion_laws.proofs.Joined.{Callee, callee, con_callee, alone, one_expression, one_pattern, one_function, join, join_patterns, join_rules, counted, counted_patterns, app_form, case_form, rule_form, con_form, con_pattern_form}
 
 -- ---- Labels
 
@@ -155,11 +156,11 @@ module _ {z : Sizes} {g : Context} where
   pub list_form : {n : Made} (p : Place) → HasBase g → (j : ℕ) {m : Made} {t : Forest} → Is z g m n (expressions j) t → Is z g m n (expressions 1) (bare.list_node p t)
   list_form {n} p b zero {m} {t} h =
       let r = no_tree h in
-      subst (λ x. Is z g m n (expressions 1) (bare.list_node p x)) (sym r.same) (after (con_form p bare.con_nil (b bare.con_nil (inr (inr (inl refl))))) r.quiet)
+      subst (λ x. Is z g m n (expressions 1) (bare.list_node p x)) (sym r.same) (after (con_form p bare.con_nil (b bare.con_nil (inr (inr (inl refl)))) refl) r.quiet)
   list_form {n} p b (suc j) {m} {t} h =
       let v = consed h in
       subst (λ x. Is z g m n (expressions 1) (bare.list_node p x)) (sym v.same)
-      (app_form p (con_form p bare.con_cons (b bare.con_cons (inr (inr (inr (inl refl)))))) (tuple_form p (join (one_expression v.place v.first) (list_form p b j v.more))))
+      (app_form p (con_callee p bare.con_cons (b bare.con_cons (inr (inr (inr (inl refl))))) (record { names = refl; datas = refl })) (tuple_form p (join (one_expression v.place v.first) (list_form p b j v.more))))
 
   pub list_pattern_form : {n : Made} (p : Place) → HasBase g → (j : ℕ) {m : Made} {xs : List ℕ} {t : Forest} → Is z g m n (patterns j xs) t → Is z g m n (patterns 1 xs) (bare.list_pattern p t)
   list_pattern_form {n} p b zero {m} {xs} {t} h =
@@ -180,10 +181,10 @@ module _ {z : Sizes} {g : Context} where
   typed_function_form p [] a h = h
   typed_function_form p (x ∷ ts) a h = typed_function_form p ts a.1 (one_function p (f.typed_function x a.0 h))
 
-  pub variable_form : {m : Made} (p : Place) (x : ℕ) → Among x g.vars → Is z g m m (expressions 1) (bare.variable_node p x)
+  pub variable_form : {m : Made} (p : Place) (x : ℕ) → VariableIn g x → Is z g m m (expressions 1) (bare.variable_node p x)
   variable_form p x h = one_expression p (f.is_variable x h)
 
-  pub variables_form : {m : Made} (p : Place) (xs : List ℕ) → AllByRecursion (λ x. Among x g.vars) xs → Is z g m m (expressions (length xs)) (bare.variable_nodes p xs)
+  pub variables_form : {m : Made} (p : Place) (xs : List ℕ) → AllByRecursion (VariableIn g) xs → Is z g m m (expressions (length xs)) (bare.variable_nodes p xs)
   variables_form p [] h = f.no_expression
   variables_form p (x ∷ xs) h = f.more_expressions (f.is_variable x h.0) (variables_form p xs h.1)
 
@@ -209,11 +210,11 @@ nest_form {z} {g} {h} {m} {k} {n} {e = e} p (f.more_declarations {a = a} {p = q}
     let o = alone (nest_form p r x) in
     subst (λ y. Is z g m n (expressions 1) (grown (node.Let 0 0) p (grown a q parts & y))) (sym o.same) (one_expression p (f.is_let d o.is))
 
-pub eta_form : {z : Sizes} {g : Context} {m n : Made} {t : Forest} (p : Place) (v : ℕ) → Names m (v ∷ []) n → Is z (with_vars (v ∷ []) g) n n (expressions 1) t → Is z g m n (expressions 1) (bare.eta_node p v t)
-eta_form p v e h = one_expression p (f.is_fn (rule_form (v ∷ []) (one_pattern p (f.variable_pattern v e)) (app_form p h (variable_form p v (inl refl)))))
+pub eta_form : {z : Sizes} {g : Context} {m n : Made} {t : Forest} (p : Place) (v : ℕ) → Names m (v ∷ []) n → Callee z (with_vars (v ∷ []) g) n n t → Is z g m n (expressions 1) (bare.eta_node p v t)
+eta_form p v e h = one_expression p (f.is_fn (rule_form (v ∷ []) (one_pattern p (f.variable_pattern v e)) (app_form p h (variable_form p v (inl refl, inl refl)))))
 
 call_form : {z : Sizes} {g : Context} {m : Made} (p : Place) (v : ℕ) → Is z (with_vars (v ∷ []) g) m m (expressions 1) (bare.apply_node p (bare.variable_node p v) (bare.tuple_node p none))
-call_form p v = app_form p (variable_form p v (inl refl)) (unit_form p)
+call_form p v = app_form p (callee (variable_form p v (inl refl, inl refl))) (unit_form p)
 
 pub while_form : {z : Sizes} {g : Context} {m k l n : Made} {s t : Forest} (p : Place) (v : ℕ) → HasBase g → Names m (v ∷ []) k → Is z (with_vars (v ∷ []) g) k l (expressions 1) s → Is z (with_vars (v ∷ []) g) l n (expressions 1) t
     → Is z g m n (expressions 1) (bare.while_node p v s t)
@@ -230,9 +231,9 @@ pub wider_under : (vs : List ℕ) (g : Context) → Wider g (under vs g)
 wider_under [] g = wider_same g
 wider_under (v ∷ vs) g = wider_both (wider_vars (v ∷ []) g) (wider_under vs (with_vars (v ∷ []) g))
 
-pub all_under : (vs : List ℕ) (g : Context) → AllByRecursion (λ x. Among x (under vs g).vars) vs
+pub all_under : (vs : List ℕ) (g : Context) → AllByRecursion (VariableIn (under vs g)) vs
 all_under [] g = tt
-all_under (v ∷ vs) g = ((wider_under vs (with_vars (v ∷ []) g)).vars v (inl refl), all_under vs (with_vars (v ∷ []) g))
+all_under (v ∷ vs) g = (variable_wider (wider_under vs (with_vars (v ∷ []) g)) v (inl refl, inl refl), all_under vs (with_vars (v ∷ []) g))
 
 pub first_name : (v : ℕ) (vs : List ℕ) (m n : Made) → Names m (v ∷ vs) n → Names m (v ∷ []) (new_name [] m).1 × Names (new_name [] m).1 vs n
 first_name v vs m n e =
@@ -241,7 +242,7 @@ first_name v vs m n e =
     let two : length n.names ≡ length m.names + suc (length vs) = e.names in
     let three : suc (length m.names) ≡ length (new_name [] m).1.names = omega (arith, one) in (
       record { from = (e.from.0, tt); names = d.names; datas = d.datas },
-      record { from = subst (λ i. From i vs) three e.from.1; names = omega (arith, one, two); datas = e.datas },
+      record { from = subst (λ i. Consecutive i vs) three e.from.1; names = omega (arith, one, two); datas = e.datas },
     )
 
 pub no_names : (m n : Made) → Names m [] n → Quiet m n

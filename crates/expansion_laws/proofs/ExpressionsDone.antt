@@ -4,7 +4,9 @@ use Rattle.std.specs.Prelude.{Bool, codes}
 use Rattle.std.specs.List.{AllByRecursion}
 use Rattle.std.proofs.lemmas.List.{length-append, length-map, map-append, append-nil}
 use Rattle.smlc_base.specs.declared.place.Place.{Place}
+use Rattle.smlc_base.specs.declared.primitive.Primitive.{Primitive}
 use Rattle.smlc_base.specs.declared.refusal.Refusal.TheVariants as refusal
+use Rattle.sml_tree.specs.declared.bare.Con.{Con}
 use Rattle.sml_tree.specs.declared.bare.Lab.{Lab}
 use Rattle.sml_tree.specs.declared.bare.Node.{Node}
 use Rattle.sml_tree.specs.declared.bare.Node.TheVariants as bare
@@ -28,15 +30,15 @@ use Rattle.sml_expansion.specs.Clauses as clauses
 use Rattle.sml_expansion.specs.Bindings.{rec_names, annotations, is_typed_fn, fn_on_the_right}
 use Rattle.sml_expansion.specs.Bare as form
 use Rattle.sml_expansion.specs.Expressions.{Position, function_part, elsewhere, eta, named, identifier, is_fn, rules_in, application, both, rule, rec_bindings, plain_dec, rec_dec, expressions, rules, plain_bindings, rec_rights, functions, decs}
-use Rattle.expansion_laws.proofs.Contexts.{Among, Context, with_vars, ScopeIn, Wider, wider_same, wider_vars, wider_both, con_wider, env_wider, env_both, among_left, among_right, among_split}
+use Rattle.expansion_laws.proofs.Contexts.{Among, Context, with_vars, ConIn, ScopeIn, Wider, wider_same, wider_vars, wider_both, con_wider, env_wider, env_both, among_left, among_right, among_split}
 use Rattle.expansion_laws.proofs.Forms as f
 use Rattle.expansion_laws.proofs.Forms.{Sizes, Quiet, Names, Is, Part, before, after, bindings, declarations}
 use Rattle.expansion_laws.proofs.Growing.{grows_both, breaks_grows, breaks_quiet, breaks_nothing, name_grows, name_names, TyvarsIn, tyvars_on, ends_back, Done, done_same, done_so, done_both, done_behind}
-use Rattle.expansion_laws.proofs.Joined.{one_function, join, join_rules, join_functions, join_bindings, join_declarations, one_expression, app_form, case_form, handle_form, rule_form, binding_form, con_form}
+use Rattle.expansion_laws.proofs.Joined.{Callee, callee, con_callee, builtin_callee, one_function, join, join_rules, join_functions, join_bindings, join_declarations, one_expression, app_form, case_form, handle_form, rule_form, binding_form, con_form}
 use Rattle.expansion_laws.proofs.Derived.{no_doubles, record_form, tuple_form, unit_form, if_form, sequence_form, list_form, typed_form, typed_function_form, variable_form, unless_one_pattern_form, nest_form, eta_form, while_form, under, wider_under, function_form}
 use Rattle.expansion_laws.proofs.Kinded as k
 use Rattle.expansion_laws.proofs.Kinded.{Kind, Kinded, Exp, Exps, Rows, Rules, Pat, Ty, Dec, Decs as DecList, ValBind, ValBinds, Clause, Clauses, FunBinds}
-use Rattle.expansion_laws.proofs.TypesDone.{type_made, quiet_both}
+use Rattle.expansion_laws.proofs.TypesDone.{type_made, quiet_same, quiet_both}
 use Rattle.expansion_laws.proofs.PatternsDone.{OptionIn, option_in, refused, names_in, patterns_made, PatMakes, one_label}
 use Rattle.expansion_laws.proofs.DeclarationsDone.{scope_within, scope_wider, scope_bound, bound_env, opens_made, opens_scope, numbers_in, DecsIn, DecsDone, type_dec_done, datatype_dec_done, exception_dec_done, idents_grows, idents_quiet, names_quiet}
 use Rattle.expansion_laws.proofs.NamesDone.{rec_count, rec_names_done, annotations_done, arguments_done, function_some, new_names_grow, new_names_are, function_of, function_same, fun_count, binds_functions_done}
@@ -49,29 +51,52 @@ ForestMakes z s q c = (m : Made) → TyvarsIn s m → ForestDone z s m (q m) c
 
 -- ---- Identifiers
 
--- a leaf that is an expression wherever there is more in scope
-abbrev LeafIn : Sizes → Scope → Forest → Type 0
-LeafIn z s t = (g h : Context) → ScopeIn g s → Wider g h → (m : Made) → Is z h m m (f.expressions 1) t
+-- what a tree is in a position: only a function part may be a constant of function type
+abbrev pub StandsAt : Position → Sizes → Context → Made → Made → Forest → Type 0
+StandsAt function_part z g m n t = Callee z g m n t
+StandsAt elsewhere z g m n t = Is z g m n (f.expressions 1) t
 
-eta_done : (z : Sizes) (s : Scope) (h : Position) (p : Place) (b : Bool) (t : Forest) (m : Made) → LeafIn z s t → ForestDone z s m (eta h p b t m) (f.expressions 1)
-eta_done z s elsewhere p true t m l = record { grows = name_grows (codes "v") m; says = λ e g i. eta_form p (length m.names) (name_names (codes "v") m) (l g (with_vars (length m.names ∷ []) g) i (wider_vars (length m.names ∷ []) g) (new_name (codes "v") m).1) }
-eta_done z s elsewhere p false t m l = done_same (λ g i. l g g i (wider_same g) m)
-eta_done z s function_part p true t m l = done_same (λ g i. l g g i (wider_same g) m)
-eta_done z s function_part p false t m l = done_same (λ g i. l g g i (wider_same g) m)
+abbrev pub PositionDone : Sizes → Scope → Made → Position → Forest × Made → Type 0
+PositionDone z s m h r = Done z s m r.1 (λ g. StandsAt h z g m r.1 r.0)
 
-named_done : (z : Sizes) (s : Scope) (h : Position) (p : Place) (i : Ident) (o : Option Meaning) (m : Made) → OptionIn s o → ForestDone z s m (named h p i o m) (f.expressions 1)
+abbrev pub PositionMakes : Sizes → Scope → Position → Makes Forest → Type 0
+PositionMakes z s h q = (m : Made) → TyvarsIn s m → PositionDone z s m h (q m)
+
+-- an expression stands everywhere
+everywhere : {z : Sizes} {s : Scope} {m : Made} (h : Position) {r : Forest × Made} → ForestDone z s m r (f.expressions 1) → PositionDone z s m h r
+everywhere function_part d = done_so d (λ g i x. callee x)
+everywhere elsewhere d = d
+
+-- a constant as a function part wherever there is more in scope, and, if it isn't of function type, as an expression
+record ConstantIn (z : Sizes) (s : Scope) (b : Bool) (t : Forest) : Type 0 where
+  part : (g h : Context) → ScopeIn g s → Wider g h → (m : Made) → Callee z h m m t
+  alone : b ≡ false → (g : Context) → ScopeIn g s → (m : Made) → Is z g m m (f.expressions 1) t
+
+eta_done : (z : Sizes) (s : Scope) (h : Position) (p : Place) (b : Bool) (t : Forest) (m : Made) → ConstantIn z s b t → PositionDone z s m h (eta h p b t m)
+eta_done z s elsewhere p true t m l = record { grows = name_grows (codes "v") m; says = λ e g i. eta_form p (length m.names) (name_names (codes "v") m) (l.part g (with_vars (length m.names ∷ []) g) i (wider_vars (length m.names ∷ []) g) (new_name (codes "v") m).1) }
+eta_done z s elsewhere p false t m l = done_same (λ g i. l.alone refl g i m)
+eta_done z s function_part p true t m l = done_same (λ g i. l.part g g i (wider_same g) m)
+eta_done z s function_part p false t m l = done_same (λ g i. l.part g g i (wider_same g) m)
+
+constructor_in : (z : Sizes) (s : Scope) (p : Place) (c : Con) → ((g : Context) → ScopeIn g s → ConIn g c) → ConstantIn z s (takes_argument c) (form.con_node p c)
+constructor_in z s p c h = record { part = λ g w i e m. con_callee p c (con_wider e c (h g i)) (quiet_same m); alone = λ b g i m. con_form p c (h g i) b }
+
+builtin_in : (z : Sizes) (s : Scope) (p : Place) (b : Primitive) → ConstantIn z s (is_function b) (grown (bare.Builtin b) p none)
+builtin_in z s p b = record { part = λ g w i e m. builtin_callee p b (quiet_same m); alone = λ e g i m. one_expression p (f.is_builtin b e) }
+
+named_done : (z : Sizes) (s : Scope) (h : Position) (p : Place) (i : Ident) (o : Option Meaning) (m : Made) → OptionIn s o → PositionDone z s m h (named h p i o m)
 named_done z s h p i None m c = record { grows = breaks_grows (refusal.Unbound i.place ∷ []) m; says = λ e g v. refused (refusal.Unbound i.place) m e.kept }
-named_done z s h p i (Some (Variable x)) m c = done_same (λ g v. variable_form p x.0 (c g v (Variable x) refl))
-named_done z s h p i (Some (Constructor x)) m c = eta_done z s h p (takes_argument x) (form.con_node p x) m (λ g w v e n. con_form p x (con_wider e x (c g v (Constructor x) refl)))
-named_done z s h p i (Some (Builtin x)) m c = eta_done z s h p (is_function x) (grown (bare.Builtin x) p none) m (λ g w v e n. one_expression p (f.is_builtin x))
+named_done z s h p i (Some (Variable x)) m c = everywhere h (done_same (λ g v. variable_form p x.0 (c g v (Variable x) refl)))
+named_done z s h p i (Some (Constructor x)) m c = eta_done z s h p (takes_argument x) (form.con_node p x) m (constructor_in z s p x (λ g v. c g v (Constructor x) refl))
+named_done z s h p i (Some (Builtin x)) m c = eta_done z s h p (is_function x) (grown (bare.Builtin x) p none) m (builtin_in z s p x)
 
-identifier_done : (z : Sizes) (s : Scope) (h : Position) (p : Place) (i : Ident) (m : Made) → ForestDone z s m (identifier h s p i m) (f.expressions 1)
+identifier_done : (z : Sizes) (s : Scope) (h : Position) (p : Place) (i : Ident) (m : Made) → PositionDone z s m h (identifier h s p i m)
 identifier_done z s h p i m = named_done z s h p i (meaning_of s i.key) m (option_in s i.key)
 
 -- ---- What each phrase is
 
 pub record ExpMade (z : Sizes) (t : Term) : Type 0 where
-  pub is : (h : Position) (s : Scope) → ForestMakes z s (expressions h s t) (f.expressions 1)
+  pub is : (h : Position) (s : Scope) → PositionMakes z s h (expressions h s t)
   pub rules : is_fn t ≡ true → (h : Position) (s : Scope) (m : Made) → TyvarsIn s m → let r = expressions h s t m in Done z s m r.1 (λ g. Is z g m r.1 f.rules (rules_in r.0))
   pub function : is_typed_fn t ≡ true → (s : Scope) → ForestMakes z s (expressions elsewhere s t) (f.functions 1)
 
@@ -105,7 +130,10 @@ one_more j = omega arith
 
 -- what is no function
 plain_exp : {z : Sizes} {t : Term} → is_fn t ≡ false → is_typed_fn t ≡ false → ((h : Position) (s : Scope) → ForestMakes z s (expressions h s t) (f.expressions 1)) → ExpMade z t
-plain_exp a b d = record { is = d; rules = λ e. no_clash (sym a ∙ e); function = λ e. no_clash (sym b ∙ e) }
+plain_exp a b d = record { is = λ h s m v. everywhere h (d h s m v); rules = λ e. no_clash (sym a ∙ e); function = λ e. no_clash (sym b ∙ e) }
+
+named_exp : {z : Sizes} {t : Term} → is_fn t ≡ false → is_typed_fn t ≡ false → ((h : Position) (s : Scope) → PositionMakes z s h (expressions h s t)) → ExpMade z t
+named_exp a b d = record { is = d; rules = λ e. no_clash (sym a ∙ e); function = λ e. no_clash (sym b ∙ e) }
 
 module _ (z : Sizes) (s : Scope) where
   -- both things
@@ -176,12 +204,12 @@ module _ (z : Sizes) (s : Scope) where
   andalso_done : (p : Place) (q u : Makes Forest) → ForestMakes z s q (f.expressions 1) → ForestMakes z s u (f.expressions 1)
       → ForestMakes z s (◌>>=◌ q (λ x. ◌>>=◌ u (λ y. gives (form.if_node p x y (form.con_node p form.con_false))))) (f.expressions 1)
   andalso_done p q u a b m v =
-      done_so (two_done v (a m v) (b (q m).1)) (λ g i r. if_form p i.base r.0 r.1 (con_form p form.con_false (i.base form.con_false (inl refl))))
+      done_so (two_done v (a m v) (b (q m).1)) (λ g i r. if_form p i.base r.0 r.1 (con_form p form.con_false (i.base form.con_false (inl refl)) refl))
 
   orelse_done : (p : Place) (q u : Makes Forest) → ForestMakes z s q (f.expressions 1) → ForestMakes z s u (f.expressions 1)
       → ForestMakes z s (◌>>=◌ q (λ x. ◌>>=◌ u (λ y. gives (form.if_node p x (form.con_node p form.con_true) y)))) (f.expressions 1)
   orelse_done p q u a b m v =
-      done_so (two_done v (a m v) (b (q m).1)) (λ g i r. if_form p i.base r.0 (con_form p form.con_true (i.base form.con_true (inr (inl refl)))) r.1)
+      done_so (two_done v (a m v) (b (q m).1)) (λ g i r. if_form p i.base r.0 (con_form p form.con_true (i.base form.con_true (inr (inl refl))) refl) r.1)
 
   while_done : (p : Place) (q u : Makes Forest) → ForestMakes z s q (f.expressions 1) → ForestMakes z s u (f.expressions 1)
       → ForestMakes z s (◌>>=◌ (new_name (codes "v")) (λ v. ◌>>=◌ q (λ x. ◌>>=◌ u (λ y. gives (form.while_node p v x y))))) (f.expressions 1)
@@ -271,17 +299,20 @@ rec_dec_form {z} {g} {m} {k} {n} {t} p vs (v ∷ names) o e h =
     subst (λ y. Is z g m n (declarations (with_vars xs g)) (rec_dec p vs (v ∷ names) y)) (sym r.same)
     (subst (λ l. Is z g m n (declarations (with_vars xs g)) (grown (bare.ValRec vs l) p x)) (rec_same (v ∷ names)) d)
 
+swapped : (xs ys : List Bound) (vs : List ℕ) (v : ℕ) → Among v (names_in (xs ++ ys) ++ vs) → Among v (names_in ys ++ (names_in xs ++ vs))
+swapped xs ys vs v h = go (among_split v (names_in (xs ++ ys)) vs h)
+  where
+    inner : Among v (names_in xs) ⊎ Among v (names_in ys) → Among v (names_in ys ++ (names_in xs ++ vs))
+    inner (inl h) = among_right v (names_in ys) (names_in xs ++ vs) (among_left v (names_in xs) vs h)
+    inner (inr h) = among_left v (names_in ys) (names_in xs ++ vs) h
+
+    go : Among v (names_in (xs ++ ys)) ⊎ Among v vs → Among v (names_in ys ++ (names_in xs ++ vs))
+    go (inl h) = inner (among_split v (names_in xs) (names_in ys) (subst (Among v) (map-append (λ w. w.name) xs ys) h))
+    go (inr h) = among_right v (names_in ys) (names_in xs ++ vs) (among_right v (names_in xs) vs h)
+
 -- first these, then those
 swap_wider : (xs ys : List Bound) (g : Context) → Wider (with_vars (names_in (xs ++ ys)) g) (with_vars (names_in ys) (with_vars (names_in xs) g))
-swap_wider xs ys g = record { vars = λ v h. go v (among_split v (names_in (xs ++ ys)) g.vars h); cons = λ c h. h }
-  where
-    inner : (v : ℕ) → Among v (names_in xs) ⊎ Among v (names_in ys) → Among v (names_in ys ++ (names_in xs ++ g.vars))
-    inner v (inl h) = among_right v (names_in ys) (names_in xs ++ g.vars) (among_left v (names_in xs) g.vars h)
-    inner v (inr h) = among_left v (names_in ys) (names_in xs ++ g.vars) h
-
-    go : (v : ℕ) → Among v (names_in (xs ++ ys)) ⊎ Among v g.vars → Among v (names_in ys ++ (names_in xs ++ g.vars))
-    go v (inl h) = inner v (among_split v (names_in xs) (names_in ys) (subst (Among v) (map-append (λ w. w.name) xs ys) h))
-    go v (inr h) = among_right v (names_in ys) (names_in xs ++ g.vars) (among_right v (names_in xs) g.vars h)
+swap_wider xs ys g = record { vars = swapped xs ys g.vars; plain = swapped xs ys g.plain; exceptions = λ v h. h; cons = λ c h. h }
 
 val_done : (z : Sizes) (s : Scope) (p : Place) (vs b : Term) → Kinded z.texts ValBinds b → BindMade z b → (m : Made) → TyvarsIn s m → DecsDone z s m (decs s (two node.Val p vs b) m)
 val_done z s p vs b h d m v =
@@ -538,9 +569,9 @@ nothing_done z s m = done_same (λ g i. record { after = g; is = f.no_declaratio
 -- ---- The whole
 
 pub phrases_made : (z : Sizes) (c : Kind) (t : Term) → Kinded z.texts c t → PhraseMade z c t
-phrases_made z c t (k.vid x p) = plain_exp refl refl (λ h s m v. identifier_done z s h p (ident s.names t) m)
-phrases_made z c t (k.long_vid x p) = plain_exp refl refl (λ h s m v. identifier_done z s h p (ident s.names t) m)
-phrases_made z c t (k.op p a) = plain_exp refl refl (λ h s m v. identifier_done z s h p (ident s.names a) m)
+phrases_made z c t (k.vid x p) = named_exp refl refl (λ h s m v. identifier_done z s h p (ident s.names t) m)
+phrases_made z c t (k.long_vid x p) = named_exp refl refl (λ h s m v. identifier_done z s h p (ident s.names t) m)
+phrases_made z c t (k.op p a) = named_exp refl refl (λ h s m v. identifier_done z s h p (ident s.names a) m)
 phrases_made z c t (k.int i p o) = plain_exp refl refl (λ h s m v. done_same (λ g w. one_expression p (f.is_int i o)))
 phrases_made z c t (k.char x p o) = plain_exp refl refl (λ h s m v. done_same (λ g w. one_expression p (f.is_char x o)))
 phrases_made z c t (k.text x p o) = plain_exp refl refl (λ h s m v. done_same (λ g w. one_expression p (f.is_text x o)))
@@ -555,7 +586,7 @@ phrases_made z c t (k.record_exp p {a} d) = let x = phrases_made z Rows a d in p
 phrases_made z c t (k.list p {a} d) = let x = phrases_made z Exps a d in plain_exp refl refl (λ h s. list_exp_done z s p (expressions elsewhere s a) (x s))
 phrases_made z c t (k.sequence p {a} {b} d e) = let x = phrases_made z Exp a d in let y = phrases_made z Exps b e in plain_exp refl refl (λ h s. sequence_exp_done z s p (expressions elsewhere s a) (expressions elsewhere s b) (x.is elsewhere s) (y s))
 phrases_made z c t (k.typed p {a} {t = u} d e) = let x = phrases_made z Exp a d in record {
-  is = λ h s. typed_exp_done z s p u (expressions elsewhere s a) e (x.is elsewhere s);
+  is = λ h s m v. everywhere h (typed_exp_done z s p u (expressions elsewhere s a) e (x.is elsewhere s) m v);
   rules = λ q. no_clash q;
   function = λ q s. typed_fn_done z s p u (expressions elsewhere s a) e (x.function q s);
 }
@@ -568,7 +599,7 @@ phrases_made z c t (k.raise p {a} d) = let x = phrases_made z Exp a d in plain_e
 phrases_made z c t (k.handle p {a} {m = b} d e) = let x = phrases_made z Exp a d in let y = phrases_made z Rules b e in plain_exp refl refl (λ h s. handle_done z s p (expressions elsewhere s a) (rules s b) (x.is elsewhere s) (y s))
 phrases_made z c t (k.case p {a} {m = b} d e) = let x = phrases_made z Exp a d in let y = phrases_made z Rules b e in plain_exp refl refl (λ h s. case_done z s p (expressions elsewhere s a) (rules s b) (x.is elsewhere s) (y s))
 phrases_made z c t (k.fn p {m = b} d) = let y = phrases_made z Rules b d in record {
-  is = λ h s m v. done_so (y s m v) (λ g i r. one_expression p (f.is_fn r));
+  is = λ h s m v. everywhere h (done_so (y s m v) (λ g i r. one_expression p (f.is_fn r)));
   rules = λ q h s m v. y s m v;
   function = λ q s m v. done_so (y s m v) (λ g i r. one_function p (f.fn_function r));
 }

@@ -11,14 +11,15 @@ use Rattle.sml_tree.specs.declared.bare.Node.TheVariants as node
 use Rattle.sml_tree.specs.declared.bare.TypeBinding.{TypeBinding}
 use Rattle.sml_tree.specs.declared.bare.DatBinding.{DatBinding}
 use Rattle.sml_tree.specs.declared.bare.ConBinding.{ConBinding}
-use Rattle.sml_tree.specs.IsBare.{IsInt}
+use Rattle.sml_tree.specs.IsBare.{IsInt, Consecutive}
 use Rattle.sml_expansion.specs.declared.made.Made.{Made}
 use Rattle.sml_expansion.specs.Bindings.{has}
 use Rattle.sml_expansion.specs.Labels.{lab_eq}
 use Rattle.sml_expansion.specs.Bare.{fields}
 use Rattle.sml_expansion.specs.Forests.{Forest, none, tree}
 use Rattle.std.specs.List.{list_any}
-use Rattle.expansion_laws.proofs.Contexts.{Among, Context, with_vars, with_cons, ConIn}
+use Rattle.sml_prelude.specs.Values.{is_function, takes_argument}
+use Rattle.expansion_laws.proofs.Contexts.{Among, Context, with_vars, with_exception, with_cons, ConIn, VariableIn}
 
 -- how many types, type variables and texts there are in the end
 pub record Sizes : Type 0 where
@@ -32,12 +33,8 @@ pub record Quiet (m n : Made) : Type 0 where
   pub datas : n.type_names ≡ m.type_names
 
 -- the names xs are made, one behind the other, and no type name
-abbrev pub From : ℕ → List ℕ → Type 0
-From i [] = Unit {0}
-From i (x ∷ xs) = (x ≡ i) × From (suc i) xs
-
 pub record Names (m : Made) (xs : List ℕ) (n : Made) : Type 0 where
-  pub from : From (length m.names) xs
+  pub from : Consecutive (length m.names) xs
   pub names : length n.names ≡ length m.names + length xs
   pub datas : n.type_names ≡ m.type_names
 
@@ -71,6 +68,8 @@ pub data Part : Type 0 where
   declaration : Node → Context → Part
   -- so many of them
   expressions functions : ℕ → Part
+  -- a function part, which may be a primitive of function type or a constructor with an argument, and what it is applied to
+  call : Part
   patterns : ℕ → List ℕ → Part
   -- rules; plain bindings, which bind these; declarations, which leave this context
   rules : Part
@@ -105,11 +104,11 @@ pub data Is (z : Sizes) : Context → Made → Made → Part → Forest → Type
   is_int : {g : Context} {m : Made} (i : ℤ) → IsInt i → Is z g m m (expression (node.Int i)) none
   is_char : {g : Context} {m : Made} (c : ℕ) → c < 256 → Is z g m m (expression (node.Char c)) none
   is_text : {g : Context} {m : Made} (t : ℕ) → t < z.texts → Is z g m m (expression (node.Text t)) none
-  is_variable : {g : Context} {m : Made} (x : ℕ) → Among x g.vars → Is z g m m (expression (node.Var (record { 0 = x }))) none
-  is_constructor : {g : Context} {m : Made} (c : Con) → ConIn g c → Is z g m m (expression (node.Constructor c)) none
-  is_builtin : {g : Context} {m : Made} (b : Primitive) → Is z g m m (expression (node.Builtin b)) none
+  is_variable : {g : Context} {m : Made} (x : ℕ) → VariableIn g x → Is z g m m (expression (node.Var (record { 0 = x }))) none
+  is_constructor : {g : Context} {m : Made} (c : Con) → ConIn g c → takes_argument c ≡ false → Is z g m m (expression (node.Constructor c)) none
+  is_builtin : {g : Context} {m : Made} (b : Primitive) → is_function b ≡ false → Is z g m m (expression (node.Builtin b)) none
   is_record : {g : Context} {m n : Made} {f : Forest} (labs : List Lab) → LabelsOnce [] labs → Is z g m n (expressions (length labs)) f → Is z g m n (expression (node.Record (fields labs))) f
-  is_app : {g : Context} {m n : Made} {f : Forest} → Is z g m n (expressions 2) f → Is z g m n (expression (node.App 0 0)) f
+  is_app : {g : Context} {m n : Made} {f : Forest} → Is z g m n call f → Is z g m n (expression (node.App 0 0)) f
   is_case : {g : Context} {m k n : Made} {a : Node} {p : Place} {parts rest : Forest}
       → Is z g m k (expression a) parts → Is z g k n rules rest → Is z g m n (expression (node.Case 0 [])) (tree a p parts rest)
   is_fn : {g : Context} {m n : Made} {f : Forest} → Is z g m n rules f → Is z g m n (expression (node.Fn [])) f
@@ -119,6 +118,10 @@ pub data Is (z : Sizes) : Context → Made → Made → Part → Forest → Type
   is_typed : {g : Context} {m n : Made} {f : Forest} (t : ℕ) → t < z.types → Is z g m n (expressions 1) f → Is z g m n (expression (node.Typed 0 t)) f
   is_let : {g h : Context} {m k n : Made} {a b : Node} {p q : Place} {parts inner : Forest}
       → Is z g m k (declaration a h) parts → Is z h k n (expression b) inner → Is z g m n (expression (node.Let 0 0)) (tree a p parts (tree b q inner none))
+  -- calls
+  call_expression : {g : Context} {m n : Made} {f : Forest} → Is z g m n (expressions 2) f → Is z g m n call f
+  call_constructor : {g : Context} {m n : Made} {p : Place} {f : Forest} (c : Con) → ConIn g c → Is z g m n (expressions 1) f → Is z g m n call (tree (node.Constructor c) p none f)
+  call_builtin : {g : Context} {m n : Made} {p : Place} {f : Forest} (b : Primitive) → Is z g m n (expressions 1) f → Is z g m n call (tree (node.Builtin b) p none f)
   -- functions
   fn_function : {g : Context} {m n : Made} {f : Forest} → Is z g m n rules f → Is z g m n (function (node.Fn [])) f
   typed_function : {g : Context} {m n : Made} {f : Forest} (t : ℕ) → t < z.types → Is z g m n (functions 1) f → Is z g m n (function (node.Typed 0 t)) f
@@ -141,9 +144,9 @@ pub data Is (z : Sizes) : Context → Made → Made → Part → Forest → Type
   is_type : {g : Context} {m : Made} (bs : List TypeBinding) → AllByRecursion (λ b. b.ty < z.types) bs → Is z g m m (declaration (node.Type bs) g) none
   is_datatype : {g : Context} {m n : Made} (bs : List DatBinding) → DatasIn z.types m.type_names bs → length n.names ≡ length m.names → n.type_names ≡ m.type_names + length bs
       → Is z g m n (declaration (node.Datatype bs) (with_cons (data_cons bs) g)) none
-  is_exception : {g : Context} {m n : Made} (x : ℕ) (arg : Option ℕ) → Names m (x ∷ []) n → ArgIn z.types arg → Is z g m n (declaration (node.Exception (record { 0 = x }) arg) (with_vars (x ∷ []) g)) none
-  same_exception : {g : Context} {m n : Made} (x : ℕ) (c : Con) → Names m (x ∷ []) n → ConIn g c → Is z g m n (declaration (node.SameException (record { 0 = x }) c) (with_vars (x ∷ []) g)) none
-  not_exception : {g : Context} {m n : Made} (x : ℕ) → Names m (x ∷ []) n → Is z g m n (declaration (node.NoException (record { 0 = x })) (with_vars (x ∷ []) g)) none
+  is_exception : {g : Context} {m n : Made} (x : ℕ) (arg : Option ℕ) → Names m (x ∷ []) n → ArgIn z.types arg → Is z g m n (declaration (node.Exception (record { 0 = x }) arg) (with_exception x g)) none
+  same_exception : {g : Context} {m n : Made} (x : ℕ) (c : Con) → Names m (x ∷ []) n → ConIn g c → Is z g m n (declaration (node.SameException (record { 0 = x }) c) (with_exception x g)) none
+  not_exception : {g : Context} {m n : Made} (x : ℕ) → Names m (x ∷ []) n → Is z g m n (declaration (node.NoException (record { 0 = x })) (with_exception x g)) none
   -- the rest of a program
   program_end : {g : Context} {m : Made} → Is z g m m (program node.Finish) none
   program_let : {g h : Context} {m k n : Made} {a b : Node} {p q : Place} {parts inner : Forest}

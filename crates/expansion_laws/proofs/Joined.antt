@@ -1,16 +1,18 @@
 -- Lists of trees one behind the other, and the derived forms over them.
-use Rattle.std.proofs.Common.{◌≡◌, ℕ, suc, ◌+◌, List, [], ◌++◌, refl, sym, ap, subst, ◌∙◌, arith}
+use Rattle.std.proofs.Common.{◌≡◌, false, ℕ, suc, ◌+◌, List, [], ◌++◌, refl, sym, ap, subst, ◌∙◌, arith}
 use Rattle.std.proofs.lemmas.List.{append_assoc, append-nil}
 use Rattle.smlc_base.specs.declared.place.Place.{Place}
+use Rattle.smlc_base.specs.declared.primitive.Primitive.{Primitive}
 use Rattle.sml_tree.specs.declared.bare.Con.{Con}
 use Rattle.sml_tree.specs.declared.bare.Node.{Node}
 use Rattle.sml_tree.specs.declared.bare.Node.TheVariants as node
 use Rattle.sml_expansion.specs.declared.made.Made.{Made}
 use Rattle.sml_expansion.specs.Forests.{Forest, none, tree, grown, count, ◌&◌}
 use Rattle.sml_expansion.specs.Bare as bare
+use Rattle.sml_prelude.specs.Values.{takes_argument}
 use Rattle.expansion_laws.proofs.Contexts.{Context, with_vars, ConIn}
 use Rattle.expansion_laws.proofs.Forms as f
-use Rattle.expansion_laws.proofs.Forms.{Sizes, Quiet, Names, LabelsOnce, Part, Is, expression, function, pattern, declaration, expressions, functions, patterns, rules, bindings, declarations, before, after}
+use Rattle.expansion_laws.proofs.Forms.{Sizes, Quiet, Names, LabelsOnce, Part, Is, expression, function, pattern, declaration, call, expressions, functions, patterns, rules, bindings, declarations, before, after}
 
 -- one tree of a list of one
 pub record Alone (z : Sizes) (g : Context) (m n : Made) (P : Node → Part) (t : Forest) : Type 0 where
@@ -115,11 +117,29 @@ counted_patterns (after h q) = counted_patterns h
 counted_patterns f.no_pattern = refl
 counted_patterns (f.more_patterns h r) = ap suc (counted_patterns r)
 
+pub counted_call : {z : Sizes} {g : Context} {m n : Made} {t : Forest} → Is z g m n call t → count t ≡ 2
+counted_call (before q h) = counted_call h
+counted_call (after h q) = counted_call h
+counted_call (f.call_expression h) = counted h
+counted_call (f.call_constructor c o h) = ap suc (counted h)
+counted_call (f.call_builtin b h) = ap suc (counted h)
+
 -- ---- Derived forms
 
+-- a function part: an expression, or what is none by itself
+pub data Callee (z : Sizes) (g : Context) (m n : Made) : Forest → Type 0 where
+  callee : {t : Forest} → Is z g m n (expressions 1) t → Callee z g m n t
+  con_callee : (p : Place) (c : Con) → ConIn g c → Quiet m n → Callee z g m n (bare.con_node p c)
+  builtin_callee : (p : Place) (b : Primitive) → Quiet m n → Callee z g m n (grown (node.Builtin b) p none)
+
 module _ {z : Sizes} {g : Context} where
-  pub app_form : {m k n : Made} {s t : Forest} (p : Place) → Is z g m k (expressions 1) s → Is z g k n (expressions 1) t → Is z g m n (expressions 1) (bare.apply_node p s t)
-  app_form p a b = one_expression p (f.is_app (join a b))
+  called : {m k n : Made} {s t : Forest} → Callee z g m k s → Is z g k n (expressions 1) t → Is z g m n call (s & t)
+  called (callee h) b = f.call_expression (join h b)
+  called (con_callee p c h q) b = before q (f.call_constructor c h b)
+  called (builtin_callee p c q) b = before q (f.call_builtin c b)
+
+  pub app_form : {m k n : Made} {s t : Forest} (p : Place) → Callee z g m k s → Is z g k n (expressions 1) t → Is z g m n (expressions 1) (bare.apply_node p s t)
+  app_form p a b = one_expression p (f.is_app (called a b))
 
   pub case_form : {m k n : Made} {s t : Forest} (p : Place) → Is z g m k (expressions 1) s → Is z g k n rules t → Is z g m n (expressions 1) (bare.case_node p s t)
   case_form {m} {k} {n} {s} {t} p a b =
@@ -141,8 +161,8 @@ module _ {z : Sizes} {g : Context} where
       let o = alone_pattern a in let r = alone b in
       subst (λ x. Is z g m n (bindings 1 (xs ++ [])) (x & t)) (sym o.same) (subst (λ x. Is z g m n (bindings 1 (xs ++ [])) (grown o.node o.place o.parts & x)) (sym r.same) (f.more_bindings o.is r.is f.no_binding))
 
-  pub con_form : {m : Made} (p : Place) (c : Con) → ConIn g c → Is z g m m (expressions 1) (bare.con_node p c)
-  con_form p c h = one_expression p (f.is_constructor c h)
+  pub con_form : {m : Made} (p : Place) (c : Con) → ConIn g c → takes_argument c ≡ false → Is z g m m (expressions 1) (bare.con_node p c)
+  con_form p c h e = one_expression p (f.is_constructor c h e)
 
   pub con_pattern_form : {m : Made} (p : Place) (c : Con) → ConIn g c → Is z g m m (patterns 1 []) (bare.con_pattern p c)
   con_pattern_form p c h = one_pattern p (f.con_pattern c h)

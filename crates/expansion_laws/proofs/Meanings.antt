@@ -40,7 +40,7 @@ value_in : (text : List ℕ) (v : Value) → value_of text ≡ Some v → ValueI
 unfolding value_of
 value_in text v e = first_in ValueIn values text v all_values e
 
-latest_in : (g : Context) (rows : List (ℕ × Meaning)) (x : ℕ) (v : Meaning) → EnvIn g rows → latest rows x ≡ Some v → MeaningIn g v
+pub latest_in : (g : Context) (rows : List (ℕ × Meaning)) (x : ℕ) (v : Meaning) → EnvIn g rows → latest rows x ≡ Some v → MeaningIn g v
 latest_in g [] x v h e = cc
 latest_in g (r ∷ rows) x v h e = go (nat_eq r.0 x) (latest_in g rows x v h.1) e
   where

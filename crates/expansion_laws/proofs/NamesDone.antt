@@ -7,6 +7,7 @@ use Rattle.smlc_base.specs.declared.place.Place.{Place}
 use Rattle.smlc_base.specs.declared.refusal.Refusal.{Refusal}
 use Rattle.smlc_base.specs.declared.refusal.Refusal.TheVariants as refusal
 use Rattle.sml_tree.specs.declared.tree_node.TreeNode.TheVariants as node
+use Rattle.sml_tree.specs.IsBare.{Consecutive}
 use Rattle.sml_expansion.specs.declared.made.Made.{Made}
 use Rattle.sml_expansion.specs.declared.scope.Ident.{Ident}
 use Rattle.sml_expansion.specs.declared.scope.Bound.{Bound}
@@ -19,7 +20,7 @@ use Rattle.sml_expansion.specs.Patterns.{binds, no_long, patterns, beside}
 use Rattle.sml_expansion.specs.Bindings.{rec_ident, rec_name, rec_names, annotations}
 use Rattle.sml_expansion.specs.Clauses as clauses
 use Rattle.sml_expansion.specs.Clauses.{head, first_clause, name_of, patterns_in, arguments_in, arguments, infix_argument, name_refusals, clause_refusals, function_name, binds_function, binds_functions}
-use Rattle.expansion_laws.proofs.Forms.{Sizes, Quiet, Names, From}
+use Rattle.expansion_laws.proofs.Forms.{Sizes, Quiet, Names}
 use Rattle.expansion_laws.proofs.Growing.{Grows, grows_same, grows_both, breaks_grows, breaks_quiet, breaks_nothing, name_grows, name_names, TyvarsIn, tyvars_on, Done}
 use Rattle.expansion_laws.proofs.Kinded as k
 use Rattle.expansion_laws.proofs.Kinded.{Kind, Kinded, Pat, Pats, Ty, ValBind, ValBinds, Clause, Clauses, FunBinds, Head}
@@ -28,19 +29,19 @@ use Rattle.expansion_laws.proofs.PatternsDone.{names_in, refused, binds_grows, b
 
 -- ---- Names one behind the other
 
-from_both : (i : ℕ) (xs ys : List ℕ) → From i xs → From (i + length xs) ys → From i (xs ++ ys)
-from_both i [] ys a b = let e : i + 0 ≡ i = omega arith in subst (λ j. From j ys) e b
-from_both i (x ∷ xs) ys a b = let e : i + suc (length xs) ≡ suc i + length xs = omega arith in (a.0, from_both (suc i) xs ys a.1 (subst (λ j. From j ys) e b))
+from_both : (i : ℕ) (xs ys : List ℕ) → Consecutive i xs → Consecutive (i + length xs) ys → Consecutive i (xs ++ ys)
+from_both i [] ys a b = let e : i + 0 ≡ i = omega arith in subst (λ j. Consecutive j ys) e b
+from_both i (x ∷ xs) ys a b = let e : i + suc (length xs) ≡ suc i + length xs = omega arith in (a.0, from_both (suc i) xs ys a.1 (subst (λ j. Consecutive j ys) e b))
 
 pub names_both : {m k n : Made} (xs ys : List ℕ) → Names m xs k → Names k ys n → Names m (xs ++ ys) n
 names_both {m} {k} {n} xs ys a b =
     let e = a.names in let h = b.names in let l = length-append xs ys in
-    record { from = from_both (length m.names) xs ys a.from (subst (λ j. From j ys) e b.from); names = omega (arith, e, h, l); datas = b.datas ∙ a.datas }
+    record { from = from_both (length m.names) xs ys a.from (subst (λ j. Consecutive j ys) e b.from); names = omega (arith, e, h, l); datas = b.datas ∙ a.datas }
 
 pub names_behind : {m k n : Made} {xs : List ℕ} → Quiet m k → Names k xs n → Names m xs n
 names_behind {m} {k} {n} {xs} q a =
     let e = q.names in let h = a.names in
-    record { from = subst (λ j. From j xs) e a.from; names = omega (arith, e, h); datas = a.datas ∙ q.datas }
+    record { from = subst (λ j. Consecutive j xs) e a.from; names = omega (arith, e, h); datas = a.datas ∙ q.datas }
 
 pub names_none : (m : Made) → Names m [] m
 names_none m = record { from = tt; names = omega arith; datas = refl }

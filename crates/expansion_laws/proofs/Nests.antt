@@ -66,10 +66,13 @@ ends_of r t (f.is_int i o) = λ rs i. refl
 ends_of r t (f.is_char c o) = λ rs i. refl
 ends_of r t (f.is_text x o) = λ rs i. refl
 ends_of r t (f.is_variable x o) = λ rs i. refl
-ends_of r t (f.is_constructor c o) = λ rs i. refl
-ends_of r t (f.is_builtin b) = λ rs i. refl
+ends_of r t (f.is_constructor c o e) = λ rs i. refl
+ends_of r t (f.is_builtin b e) = λ rs i. refl
 ends_of r t (f.is_record labs o h) = λ rs i. ends_of (f.expressions (length labs)) t h i
-ends_of r t (f.is_app h) = λ rs i. ends_of (f.expressions 2) t h i
+ends_of r t (f.is_app h) = λ rs i. ends_of f.call t h i
+ends_of r t (f.call_expression h) = λ i. ends_of (f.expressions 2) t h i
+ends_of r t (f.call_constructor {p = p} {f = rest} c o h) = ends_tree (node.Constructor c) p none rest [] (λ rs i. refl) (ends_of (f.expressions 1) rest h)
+ends_of r t (f.call_builtin {p = p} {f = rest} b h) = ends_tree (node.Builtin b) p none rest [] (λ rs i. refl) (ends_of (f.expressions 1) rest h)
 ends_of r t (f.is_case {a = a} {p = p} {parts = parts} {rest = rest} h i) = λ rs j. ends_tree a p parts rest [] (ends_of (f.expression a) parts h) (ends_of f.rules rest i) j
 ends_of r t (f.is_fn h) = λ rs i. ends_of (f.rules) t h i
 ends_of r t (f.is_raise h) = λ rs i. ends_of (f.expressions 1) t h i

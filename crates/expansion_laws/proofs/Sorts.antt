@@ -18,7 +18,7 @@ use Rattle.sml_expansion.specs.Labels.{slot}
 use Rattle.expansion_laws.proofs.Contexts.{Context}
 use Rattle.expansion_laws.proofs.Forms as f
 use Rattle.expansion_laws.proofs.Forms.{Sizes, Is, Part}
-use Rattle.expansion_laws.proofs.Joined.{counted, counted_patterns}
+use Rattle.expansion_laws.proofs.Joined.{counted, counted_patterns, counted_call}
 use Rattle.expansion_laws.proofs.Positions.{At, EachTree, Fits, Fit}
 
 pub counted_functions : {z : Sizes} {g : Context} {m n : Made} {j : ℕ} {t : Forest} → Is z g m n (f.functions j) t → count t ≡ j
@@ -75,6 +75,7 @@ FitOf f.rules t = Fit t × ((i : ℕ) → flat_map rule_parts (rules_at (roots i
 FitOf (f.bindings j xs) t = Fit t × ((i : ℕ) → flat_map (λ b. b.pat ∷ b.right ∷ []) (bindings_at (roots i t)) ≡ roots i t)
 FitOf (f.expressions j) t = Fit t
 FitOf (f.functions j) t = Fit t
+FitOf f.call t = Fit t
 FitOf (f.patterns j xs) t = Fit t
 FitOf (f.declarations h) t = Fit t
 
@@ -101,10 +102,13 @@ fit_of r t (f.is_int i o) = ((λ j. refl), tt)
 fit_of r t (f.is_char c o) = ((λ j. refl), tt)
 fit_of r t (f.is_text x o) = ((λ j. refl), tt)
 fit_of r t (f.is_variable x o) = ((λ j. refl), tt)
-fit_of r t (f.is_constructor c o) = ((λ j. refl), tt)
-fit_of r t (f.is_builtin b) = ((λ j. refl), tt)
+fit_of r t (f.is_constructor c o e) = ((λ j. refl), tt)
+fit_of r t (f.is_builtin b e) = ((λ j. refl), tt)
 fit_of r t (f.is_record labs o h) = ((λ j. field_parts (roots j t) (fields labs) (many_fields labs j t (counted h))), fit_of (f.expressions (length labs)) t h)
-fit_of r t (f.is_app h) = ((λ j. two_parts (roots j t) (many_roots j t ∙ counted h)), fit_of (f.expressions 2) t h)
+fit_of r t (f.is_app h) = ((λ j. two_parts (roots j t) (many_roots j t ∙ counted_call h)), fit_of f.call t h)
+fit_of r t (f.call_expression h) = fit_of (f.expressions 2) t h
+fit_of r t (f.call_constructor {f = rest} c o h) = ((λ j. refl), tt, fit_of (f.expressions 1) rest h)
+fit_of r t (f.call_builtin {f = rest} b h) = ((λ j. refl), tt, fit_of (f.expressions 1) rest h)
 fit_of r t (f.is_case {a = a} {parts = parts} {rest = rest} h i) = let x = fit_of (f.expression a) parts h in let w = fit_of f.rules rest i in ((λ j. ap (λ l. j ∷ l) (w.1 (suc (j + size parts)))), (x.0, x.1, w.0))
 fit_of r t (f.is_fn h) = let w = fit_of f.rules t h in (w.1, w.0)
 fit_of r t (f.is_raise h) = ((λ j. one_part (roots j t) (many_roots j t ∙ counted h)), fit_of (f.expressions 1) t h)
@@ -153,6 +157,7 @@ module _ (nodes : List Node) (fn : (i : ℕ) (n : Node) → slice_get nodes i �
   SortOf f.rules t = (i : ℕ) → At nodes i t → HasRules nodes (rules_at (roots i t)) × Sorted i t
   SortOf (f.bindings j xs) t = (i : ℕ) → At nodes i t → AllByRecursion (λ b. IsOf nodes Pattern b.pat × IsOf nodes Expression b.right) (bindings_at (roots i t)) × Sorted i t
   SortOf (f.expressions j) t = (i : ℕ) → At nodes i t → AllByRecursion (IsOf nodes Expression) (roots i t) × Sorted i t
+  SortOf f.call t = (i : ℕ) → At nodes i t → AllByRecursion (IsOf nodes Expression) (roots i t) × Sorted i t
   SortOf (f.functions j) t = (i : ℕ) → At nodes i t → AllByRecursion (λ c. is_function nodes c ≡ true) (roots i t) × Sorted i t
   SortOf (f.patterns j xs) t = (i : ℕ) → At nodes i t → AllByRecursion (IsOf nodes Pattern) (roots i t) × Sorted i t
   SortOf (f.declarations h) t = Unit {0}
@@ -240,10 +245,13 @@ module _ (nodes : List Node) (fn : (i : ℕ) (n : Node) → slice_get nodes i �
   sort_of_part r t (f.is_char c o) = ((λ rs. refl), λ j at. (tt, tt))
   sort_of_part r t (f.is_text x o) = ((λ rs. refl), λ j at. (tt, tt))
   sort_of_part r t (f.is_variable x o) = ((λ rs. refl), λ j at. (tt, tt))
-  sort_of_part r t (f.is_constructor c o) = ((λ rs. refl), λ j at. (tt, tt))
-  sort_of_part r t (f.is_builtin b) = ((λ rs. refl), λ j at. (tt, tt))
+  sort_of_part r t (f.is_constructor c o e) = ((λ rs. refl), λ j at. (tt, tt))
+  sort_of_part r t (f.is_builtin b e) = ((λ rs. refl), λ j at. (tt, tt))
   sort_of_part r t (f.is_record labs o h) = ((λ rs. refl), λ j at. let d = sort_of_part (f.expressions (length labs)) t h j at in (field_sorts Expression (roots j t) (fields labs) (many_fields labs j t (counted h)) d.0, d.1))
-  sort_of_part r t (f.is_app h) = ((λ rs. refl), λ j at. let d = sort_of_part (f.expressions 2) t h j at in (second_sort (IsOf nodes Expression) (roots j t) (many_roots j t ∙ counted h) d.0, d.1))
+  sort_of_part r t (f.is_app h) = ((λ rs. refl), λ j at. let d = sort_of_part f.call t h j at in (second_sort (IsOf nodes Expression) (roots j t) (many_roots j t ∙ counted_call h) d.0, d.1))
+  sort_of_part r t (f.call_expression h) = λ j at. sort_of_part (f.expressions 2) t h j at
+  sort_of_part r t (f.call_constructor {f = rest} c o h) = λ j at. let d = sort_of_part (f.expressions 1) rest h (suc (j + 0)) at.2 in ((is_of j Expression at.0 refl, d.0), (tt, tt, d.1))
+  sort_of_part r t (f.call_builtin {f = rest} b h) = λ j at. let d = sort_of_part (f.expressions 1) rest h (suc (j + 0)) at.2 in ((is_of j Expression at.0 refl, d.0), (tt, tt, d.1))
   sort_of_part r t (f.is_case {a = a} {p = p} {parts = parts} {rest = rest} h i) = (
     (λ rs. refl),
     λ j at.

@@ -7,22 +7,22 @@ use Rattle.sml_tree.specs.declared.bare.Node.{Node}
 use Rattle.sml_tree.specs.declared.bare.Node.TheVariants as node
 use Rattle.sml_tree.specs.declared.bare.DatBinding.{DatBinding}
 use Rattle.sml_tree.specs.Sets.{has}
-use Rattle.sml_tree.specs.IsBare.{IsDistinct, names_at}
+use Rattle.sml_tree.specs.IsBare.{IsDistinct, names_at, Consecutive, type_names_at}
 use Rattle.sml_expansion.specs.declared.made.Made.{Made}
 use Rattle.sml_expansion.specs.Forests.{Forest, none, tree, size, roots, numbered, with_parts, rec_bindings_at}
 use Rattle.expansion_laws.proofs.Contexts.{Context}
 use Rattle.expansion_laws.proofs.Forms as f
-use Rattle.expansion_laws.proofs.Forms.{Sizes, Is, Part, Quiet, Names, From, DatasIn}
+use Rattle.expansion_laws.proofs.Forms.{Sizes, Is, Part, Quiet, Names, DatasIn}
 use Rattle.expansion_laws.proofs.Sorts.{rec_of}
 
 -- xs are the numbers from m to n
 pub record Span (m n : ℕ) (xs : List ℕ) : Type 0 where
-  pub from : From m xs
+  pub from : Consecutive m xs
   pub end : n ≡ m + length xs
 
-from_both : (i : ℕ) (xs ys : List ℕ) → From i xs → From (i + length xs) ys → From i (xs ++ ys)
-from_both i [] ys a b = let e : i + 0 ≡ i = omega arith in subst (λ j. From j ys) e b
-from_both i (x ∷ xs) ys a b = let e : i + suc (length xs) ≡ suc i + length xs = omega arith in (a.0, from_both (suc i) xs ys a.1 (subst (λ j. From j ys) e b))
+from_both : (i : ℕ) (xs ys : List ℕ) → Consecutive i xs → Consecutive (i + length xs) ys → Consecutive i (xs ++ ys)
+from_both i [] ys a b = let e : i + 0 ≡ i = omega arith in subst (λ j. Consecutive j ys) e b
+from_both i (x ∷ xs) ys a b = let e : i + suc (length xs) ≡ suc i + length xs = omega arith in (a.0, from_both (suc i) xs ys a.1 (subst (λ j. Consecutive j ys) e b))
 
 span_none : (m : ℕ) → Span m m []
 span_none m = record { from = tt; end = omega arith }
@@ -30,12 +30,7 @@ span_none m = record { from = tt; end = omega arith }
 span_both : (m k n : ℕ) (xs ys : List ℕ) → Span m k xs → Span k n ys → Span m n (xs ++ ys)
 span_both m k n xs ys a b =
     let e = a.end in let h = b.end in let l = length-append xs ys in
-    record { from = from_both m xs ys a.from (subst (λ j. From j ys) e b.from); end = omega (arith, e, h, l) }
-
--- the type names that a node declares
-abbrev pub datas_at : Node → List ℕ
-datas_at (node.Datatype bs) = map (λ d. d.type_name) bs
-datas_at _ = []
+    record { from = from_both m xs ys a.from (subst (λ j. Consecutive j ys) e b.from); end = omega (arith, e, h, l) }
 
 pub record Spans (m n : Made) (xs ys : List ℕ) : Type 0 where
   pub names : Span (length m.names) (length n.names) xs
@@ -74,16 +69,16 @@ pub all_tree : (own : Node → List ℕ) (i : ℕ) (a : Node) (p : Place) (parts
 all_tree own i a p parts rest = ap (λ l. own (with_parts a (roots (suc i) parts)) ++ l) (flat_append own (numbered (suc i) parts) (numbered (suc (i + size parts)) rest)) ∙ sym (append_assoc (own (with_parts a (roots (suc i) parts))) (all own (suc i) parts) (all own (suc (i + size parts)) rest))
 
 abbrev NodeSpans : Made → Made → Node → Forest → Type 0
-NodeSpans m n a t = (rs : List ℕ) (i : ℕ) → Spans m n (names_at (with_parts a rs) ++ all names_at i t) (datas_at (with_parts a rs) ++ all datas_at i t)
+NodeSpans m n a t = (rs : List ℕ) (i : ℕ) → Spans m n (names_at (with_parts a rs) ++ all names_at i t) (type_names_at (with_parts a rs) ++ all type_names_at i t)
 
 abbrev ListSpans : Made → Made → Forest → Type 0
-ListSpans m n t = (i : ℕ) → Spans m n (all names_at i t) (all datas_at i t)
+ListSpans m n t = (i : ℕ) → Spans m n (all names_at i t) (all type_names_at i t)
 
 spans_tree : {m k n : Made} (a : Node) (p : Place) (parts rest : Forest) → NodeSpans m k a parts → ListSpans k n rest → ListSpans m n (tree a p parts rest)
 spans_tree {m} {k} {n} a p parts rest x y i =
     let d = spans_both (x (roots (suc i) parts) (suc i)) (y (suc (i + size parts))) in
-    subst (λ l. Spans m n l (all datas_at i (tree a p parts rest))) (sym (all_tree names_at i a p parts rest))
-    (subst (λ l. Spans m n ((names_at (with_parts a (roots (suc i) parts)) ++ all names_at (suc i) parts) ++ all names_at (suc (i + size parts)) rest) l) (sym (all_tree datas_at i a p parts rest)) d)
+    subst (λ l. Spans m n l (all type_names_at i (tree a p parts rest))) (sym (all_tree names_at i a p parts rest))
+    (subst (λ l. Spans m n ((names_at (with_parts a (roots (suc i) parts)) ++ all names_at (suc i) parts) ++ all names_at (suc (i + size parts)) rest) l) (sym (all_tree type_names_at i a p parts rest)) d)
 
 rec_named : (rs xs : List ℕ) → map (λ b. b.name.0) (rec_bindings_at rs (rec_of xs)) ≡ xs
 rec_named rs [] = none_named rs
@@ -94,7 +89,7 @@ rec_named rs [] = none_named rs
 rec_named [] (x ∷ xs) = ap (λ l. x ∷ l) (rec_named [] xs)
 rec_named (r ∷ rs) (x ∷ xs) = ap (λ l. x ∷ l) (rec_named rs xs)
 
-datas_from : (types i : ℕ) (bs : List DatBinding) → DatasIn types i bs → From i (map (λ d. d.type_name) bs)
+datas_from : (types i : ℕ) (bs : List DatBinding) → DatasIn types i bs → Consecutive i (map (λ d. d.type_name) bs)
 datas_from types i [] h = tt
 datas_from types i (b ∷ bs) h = (h.0, datas_from types (suc i) bs h.3)
 
@@ -116,6 +111,7 @@ quiet_before n f.rules t q d = λ i. spans_before q (d i)
 quiet_before n (f.bindings j xs) t q d = λ i. spans_before q (d i)
 quiet_before n (f.expressions j) t q d = λ i. spans_before q (d i)
 quiet_before n (f.functions j) t q d = λ i. spans_before q (d i)
+quiet_before n f.call t q d = λ i. spans_before q (d i)
 quiet_before n (f.patterns j xs) t q d = λ i. spans_before q (d i)
 quiet_before n (f.declarations h) t q d = λ i. spans_before q (d i)
 
@@ -129,6 +125,7 @@ quiet_after m f.rules t d q = λ i. spans_after (d i) q
 quiet_after m (f.bindings j xs) t d q = λ i. spans_after (d i) q
 quiet_after m (f.expressions j) t d q = λ i. spans_after (d i) q
 quiet_after m (f.functions j) t d q = λ i. spans_after (d i) q
+quiet_after m f.call t d q = λ i. spans_after (d i) q
 quiet_after m (f.patterns j xs) t d q = λ i. spans_after (d i) q
 quiet_after m (f.declarations h) t d q = λ i. spans_after (d i) q
 
@@ -151,10 +148,13 @@ spans_of r t (f.is_int i o) = λ rs i. spans_none _
 spans_of r t (f.is_char c o) = λ rs i. spans_none _
 spans_of r t (f.is_text x o) = λ rs i. spans_none _
 spans_of r t (f.is_variable x o) = λ rs i. spans_none _
-spans_of r t (f.is_constructor c o) = λ rs i. spans_none _
-spans_of r t (f.is_builtin b) = λ rs i. spans_none _
+spans_of r t (f.is_constructor c o e) = λ rs i. spans_none _
+spans_of r t (f.is_builtin b e) = λ rs i. spans_none _
 spans_of r t (f.is_record labs o h) = λ rs i. spans_of (f.expressions (length labs)) t h i
-spans_of r t (f.is_app h) = λ rs i. spans_of (f.expressions 2) t h i
+spans_of r t (f.is_app h) = λ rs i. spans_of f.call t h i
+spans_of r t (f.call_expression h) = λ i. spans_of (f.expressions 2) t h i
+spans_of r t (f.call_constructor {p = p} {f = rest} c o h) = spans_tree (node.Constructor c) p none rest (λ rs i. spans_none _) (spans_of (f.expressions 1) rest h)
+spans_of r t (f.call_builtin {p = p} {f = rest} b h) = spans_tree (node.Builtin b) p none rest (λ rs i. spans_none _) (spans_of (f.expressions 1) rest h)
 spans_of r t (f.is_case {a = a} {p = p} {parts = parts} {rest = rest} h i) = λ rs j. spans_tree a p parts rest (spans_of (f.expression a) parts h) (spans_of f.rules rest i) j
 spans_of r t (f.is_fn h) = λ rs i. spans_of (f.rules) t h i
 spans_of r t (f.is_raise h) = λ rs i. spans_of (f.expressions 1) t h i
@@ -175,7 +175,7 @@ spans_of r t (f.typed_pattern {xs = xs} y o h) = λ rs i. spans_of (f.patterns 1
 spans_of r t (f.as_pattern {xs = xs} x e h) = λ rs i. spans_both (spans_names e) (spans_of (f.patterns 1 xs) t h i)
 spans_of r t (f.con_as_pattern {xs = xs} x e h) = λ rs i. spans_both (spans_names e) (spans_of (f.patterns 1 xs) t h i)
 spans_of r t (f.is_val {j = j} {xs = xs} vs o h) = λ rs i. spans_of (f.bindings j xs) t h i
-spans_of r t (f.is_val_rec {m = m} {k = k} {n = n} vs xs o e h) = λ rs i. subst (λ l. Spans m n (l ++ all names_at i t) (all datas_at i t)) (sym (rec_named rs xs)) (spans_both (spans_names e) (spans_of (f.functions (length xs)) t h i))
+spans_of r t (f.is_val_rec {m = m} {k = k} {n = n} vs xs o e h) = λ rs i. subst (λ l. Spans m n (l ++ all names_at i t) (all type_names_at i t)) (sym (rec_named rs xs)) (spans_both (spans_names e) (spans_of (f.functions (length xs)) t h i))
 spans_of r t (f.is_type bs o) = λ rs i. spans_none _
 spans_of {z} r t (f.is_datatype {m = m} {n = n} bs o e i) = λ rs j. record { names = record { from = tt; end = omega (arith, e) }; datas = subst (Span m.type_names n.type_names) (sym (append-nil (map (λ d. d.type_name) bs))) (record { from = datas_from z.types m.type_names bs o; end = (let l = length-map bs (λ (d : DatBinding). d.type_name) in omega (arith, i, l)) }) }
 spans_of r t (f.is_exception x arg e o) = λ rs i. spans_names e
@@ -186,12 +186,12 @@ spans_of r t (f.program_let {h = e} {a = a} {b = b} {p = p} {q = q} {parts = par
 
 -- ---- So none stands twice
 
-not_among : (x i : ℕ) (xs : List ℕ) → x < i → From i xs → has xs x ≡ false
+not_among : (x i : ℕ) (xs : List ℕ) → x < i → Consecutive i xs → has xs x ≡ false
 not_among x i [] le h = refl
 not_among x i (y ∷ ys) le h =
     let e : nat_eq x y ≡ false = subst (λ w. nat_eq x w ≡ false) (sym h.0) (ne_eqb x i (λ same. absurd (omega (arith, le, same)))) in
     rw e (not_among x (suc i) ys (omega (arith, le)) h.1)
 
-pub distinct : (i : ℕ) (xs : List ℕ) → From i xs → IsDistinct xs
+pub distinct : (i : ℕ) (xs : List ℕ) → Consecutive i xs → IsDistinct xs
 distinct i [] h = tt
 distinct i (x ∷ xs) h = let e = h.0 in (not_among x (suc i) xs (omega (arith, e)) h.1, distinct (suc i) xs h.1)

@@ -567,11 +567,22 @@ all_kinded : (x : ℕ) (ts : List Term) → AllByRecursion (Leaves x) ts → All
 all_kinded x [] a b h = tt
 all_kinded x (t ∷ ts) a b h = let d = both_true (is_a t q.Dec) (list_all (λ t. is_a t q.Dec) ts) h in (kinded x t (facts_of x t a.0 b.0) q.Dec d.0, all_kinded x ts a.1 b.1 d.1)
 
-pub tree_shaped : (t : Tree) → AllByRecursion CharFits t.nodes → AllByRecursion (Kinded (length t.texts) k.Dec) (trees t.nodes t.places)
+-- with more texts
+leaf_more : (x y : ℕ) (n : TreeNode) → x ≤ y → LeafFact x n → LeafFact y n
+leaf_more x y (node.Int i) le h = h
+leaf_more x y (node.Char c) le h = h
+leaf_more x y (node.Text t) le h = omega (arith, le, h)
+leaf_more x y _ le h = tt
+
+leaves_more : (x y : ℕ) (nodes : List TreeNode) → x ≤ y → AllByRecursion (LeafFact x) nodes → AllByRecursion (LeafFact y) nodes
+leaves_more x y [] le h = tt
+leaves_more x y (n ∷ nodes) le h = (leaf_more x y n le h.0, leaves_more x y nodes le h.1)
+
+pub tree_shaped : (t : Tree) (texts : ℕ) → length t.texts ≤ texts → AllByRecursion CharFits t.nodes → AllByRecursion (Kinded texts k.Dec) (trees t.nodes t.places)
 unfolding total
-tree_shaped t c =
+tree_shaped t texts le c =
     let few = t.few in
-    all_kinded (length t.texts) (trees t.nodes t.places)
-    (read_leaves (length t.texts) t.nodes t.places [] (cited_leaves (length t.names) (length t.texts) t.nodes t.cited c) tt)
+    all_kinded texts (trees t.nodes t.places)
+    (read_leaves texts t.nodes t.places [] (leaves_more (length t.texts) texts t.nodes le (cited_leaves (length t.names) (length t.texts) t.nodes t.cited c)) tt)
     (read_few 1048576 t.nodes t.places [] (omega (arith, few)))
     (sym (shaped_trees t.nodes t.places t.decs t.placed t.forest) ∙ t.shaped)

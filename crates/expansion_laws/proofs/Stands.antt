@@ -1,5 +1,5 @@
 -- What a node cites stands.
-use Rattle.std.proofs.Common.{◌≡◌, ℕ, zero, suc, ◌<◌, ◌≤◌, ◌+◌, ◌⊎◌, inl, inr, true, false, cond, List, [], ◌∷◌, ◌++◌, map, length, refl, sym, ap, subst, ◌∙◌, Option, Some, None, arith, eq-eqb, ne_eqb}
+use Rattle.std.proofs.Common.{◌≡◌, ℕ, zero, suc, ◌<◌, ◌≤◌, ◌+◌, ◌^◌, ◌⊎◌, inl, inr, true, false, cond, List, [], ◌∷◌, ◌++◌, map, length, refl, sym, ap, subst, ◌∙◌, Option, Some, None, arith, eq-eqb, ne_eqb}
 use Rattle.std.specs.Prelude.{slice_get, Bool, nat_eq, flat_map, unwrap_or}
 use Rattle.std.specs.List.{AllByRecursion}
 use Rattle.std.specs.Option.{is_some}
@@ -12,15 +12,15 @@ use Rattle.sml_tree.specs.declared.bare.DatBinding.{DatBinding}
 use Rattle.sml_tree.specs.declared.bare.Node.{Node}
 use Rattle.sml_tree.specs.declared.bare.Node.TheVariants as node
 use Rattle.sml_tree.specs.IsBare as spec
-use Rattle.sml_tree.specs.IsBare.{Stands, ConStands, OptionStands, declared_by, cons_of}
+use Rattle.sml_tree.specs.IsBare.{Stands, ConStands, OptionStands, declared_by, cons_of, Consecutive, type_names_at}
 use Rattle.sml_expansion.specs.declared.made.Made.{Made}
 use Rattle.sml_expansion.specs.Bindings.{has}
 use Rattle.sml_expansion.specs.Forests.{Forest, size, roots, with_parts, rec_bindings_at}
 use Rattle.expansion_laws.proofs.Contexts.{Among, Context, with_vars, ConIn, base_cons, among_split, among_left, among_right}
 use Rattle.expansion_laws.proofs.Forms as f
-use Rattle.expansion_laws.proofs.Forms.{Sizes, Is, Part, Names, Quiet, From, DatasIn, ArgIn, cons_from, data_cons}
+use Rattle.expansion_laws.proofs.Forms.{Sizes, Is, Part, Names, Quiet, DatasIn, ArgIn, cons_from, data_cons}
 use Rattle.expansion_laws.proofs.Positions.{At, EachTree}
-use Rattle.expansion_laws.proofs.Spans.{datas_at, spans_of, SpansOf, Spans}
+use Rattle.expansion_laws.proofs.Spans.{spans_of, SpansOf, Spans}
 use Rattle.expansion_laws.proofs.Sorts.{rec_of}
 use Rattle.expansion_laws.proofs.Rows.{row_is}
 use Rattle.sml_tree.proofs.Unfold.{all_map}
@@ -41,6 +41,7 @@ is_grows {z} {g} {m} {n} r t h = go r (spans_of r t h)
     go (f.declaration a h) d = le _ _ (d [] 0)
     go (f.expressions j) d = le _ _ (d 0)
     go (f.functions j) d = le _ _ (d 0)
+    go f.call d = le _ _ (d 0)
     go (f.patterns j xs) d = le _ _ (d 0)
     go f.rules d = le _ _ (d 0)
     go (f.bindings j xs) d = le _ _ (d 0)
@@ -60,7 +61,7 @@ below_both i xs ys a b x h = go (among_split x xs ys h)
     go (inl h) = a x h
     go (inr h) = b x h
 
-from_below : (i : ℕ) (xs : List ℕ) → From i xs → Below (i + length xs) xs
+from_below : (i : ℕ) (xs : List ℕ) → Consecutive i xs → Below (i + length xs) xs
 from_below i [] h x a = absurd a
 from_below i (y ∷ xs) h x (inl e) = let b = h.0 in let c : x ≡ y = e in omega (arith, b, c)
 from_below i (y ∷ xs) h x (inr a) = let b = from_below (suc i) xs h.1 x a in omega (arith, b)
@@ -99,6 +100,7 @@ quiet_below g (f.function a) q b = tt
 quiet_below g (f.program a) q b = tt
 quiet_below g (f.expressions j) q b = tt
 quiet_below g (f.functions j) q b = tt
+quiet_below g f.call q b = tt
 quiet_below g f.rules q b = tt
 quiet_below g (f.declarations h) q b = tt
 
@@ -162,26 +164,26 @@ map_append : (xs ys : List DatBinding) → map (λ d. d.type_name) (xs ++ ys) �
 map_append [] ys = refl
 map_append (x ∷ xs) ys = ap (λ l. x.type_name ∷ l) (map_append xs ys)
 
-names_one : (n : Node) → datas_at n ≡ map (λ d. d.type_name) (dats n)
+names_one : (n : Node) → type_names_at n ≡ map (λ d. d.type_name) (dats n)
 names_one (node.Datatype bs) = refl
 names_one _ = refl
 
-names_all : (nodes : List Node) → flat_map datas_at nodes ≡ map (λ d. d.type_name) (flat_map dats nodes)
+names_all : (nodes : List Node) → flat_map type_names_at nodes ≡ map (λ d. d.type_name) (flat_map dats nodes)
 names_all [] = refl
-names_all (n ∷ nodes) = ap (λ l. l ++ flat_map datas_at nodes) (names_one n) ∙ ap (λ l. map (λ d. d.type_name) (dats n) ++ l) (names_all nodes) ∙ sym (map_append (dats n) (flat_map dats nodes))
+names_all (n ∷ nodes) = ap (λ l. l ++ flat_map type_names_at nodes) (names_one n) ∙ ap (λ l. map (λ d. d.type_name) (dats n) ++ l) (names_all nodes) ∙ sym (map_append (dats n) (flat_map dats nodes))
 
-from_least : (i : ℕ) (ds : List DatBinding) (d : DatBinding) → From i (map (λ d. d.type_name) ds) → Among d ds → i ≤ d.type_name
+from_least : (i : ℕ) (ds : List DatBinding) (d : DatBinding) → Consecutive i (map (λ d. d.type_name) ds) → Among d ds → i ≤ d.type_name
 from_least i [] d h a = absurd a
 from_least i (e ∷ ds) d h (inl s) = let b = h.0 in let c : d.type_name ≡ e.type_name = ap (λ w. w.type_name) s in omega (arith, b, c)
 from_least i (e ∷ ds) d h (inr a) = let b = from_least (suc i) ds d h.1 a in omega (arith, b)
 
-none_declared : (k i : ℕ) (ds : List DatBinding) → k < i → From i (map (λ d. d.type_name) ds) → declared_in k ds ≡ []
+none_declared : (k i : ℕ) (ds : List DatBinding) → k < i → Consecutive i (map (λ d. d.type_name) ds) → declared_in k ds ≡ []
 none_declared k i [] le h = refl
 none_declared k i (e ∷ ds) le h =
     let n : nat_eq e.type_name k ≡ false = ne_eqb e.type_name k (λ s. let b = h.0 in omega (arith, b, s, le)) in
     ap (λ b. cond b (argued e) [] ++ declared_in k ds) n ∙ none_declared k (suc i) ds (omega (arith, le)) h.1
 
-declared_once : (i : ℕ) (ds : List DatBinding) (d : DatBinding) → From i (map (λ d. d.type_name) ds) → Among d ds → declared_in d.type_name ds ≡ argued d
+declared_once : (i : ℕ) (ds : List DatBinding) (d : DatBinding) → Consecutive i (map (λ d. d.type_name) ds) → Among d ds → declared_in d.type_name ds ≡ argued d
 declared_once i [] d h a = absurd a
 declared_once i (e ∷ ds) d h (inl s) =
     let same : nat_eq e.type_name d.type_name ≡ true = eq-eqb e.type_name d.type_name (ap (λ w. w.type_name) (sym s)) in
@@ -230,9 +232,9 @@ one_con c k i (x ∷ cs) (inr a) =
 abbrev pub sizes_in : Bare → Sizes
 sizes_in p = record { types = length p.types; tyvars = length p.tyvars; texts = length p.texts }
 
-module _ (p : Bare) (declared : From 10 (flat_map datas_at p.nodes)) where
-  ordered : From 10 (map (λ d. d.type_name) (flat_map dats p.nodes))
-  ordered = subst (From 10) (names_all p.nodes) declared
+module _ (p : Bare) (declared : Consecutive 10 (flat_map type_names_at p.nodes)) where
+  ordered : Consecutive 10 (map (λ d. d.type_name) (flat_map dats p.nodes))
+  ordered = subst (Consecutive 10) (names_all p.nodes) declared
 
   binding_cons : (d : DatBinding) → Among d (flat_map dats p.nodes) → length d.cons < 1048577 → (c : Con) → Among c (cons_from d.type_name 0 d.cons) → ConStands p c
   binding_cons d m few c a =
@@ -271,7 +273,7 @@ module _ (p : Bare) (declared : From 10 (flat_map datas_at p.nodes)) where
   con_stands : (g : Context) → Good g → (c : Con) → ConIn g c → ConStands p c
   con_stands g o (con.Data t number takes) h = o.cons (con.Data t number takes) h
   con_stands g o con.Ref h = tt
-  con_stands g o (con.Exn x takes) h = o.vars x.0 h
+  con_stands g o (con.Exn x takes) h = o.vars x.0 h.0
   con_stands g o (con.Library e) h = tt
 
   good_vars : (g : Context) (xs : List ℕ) → Good g → Below (length p.names) xs → Good (with_vars xs g)
@@ -321,9 +323,9 @@ module _ (p : Bare) (declared : From 10 (flat_map datas_at p.nodes)) where
   arg_stands None h = tt
   arg_stands (Some t) h = h
 
-  args_stand : (k : ℕ) (bs : List DatBinding) → DatasIn (length p.types) k bs → AllByRecursion (λ d. AllByRecursion (λ c. OptionStands p c.arg) d.cons) bs
+  args_stand : (k : ℕ) (bs : List DatBinding) → DatasIn (length p.types) k bs → AllByRecursion (λ d. AllByRecursion (λ c. OptionStands p c.arg) d.cons × (length d.cons ≤ 2 ^ 20)) bs
   args_stand k [] h = tt
-  args_stand k (d ∷ bs) h = (all_map (λ c a. arg_stands c.arg a) d.cons h.2, args_stand (suc k) bs h.3)
+  args_stand k (d ∷ bs) h = let few = h.1 in ((all_map (λ c a. arg_stands c.arg a) d.cons h.2, omega (arith, few)), args_stand (suc k) bs h.3)
 
   rec_stand : (rs xs : List ℕ) → Below (length p.names) xs → AllByRecursion (λ b. b.name.0 < length p.names) (rec_bindings_at rs (rec_of xs))
   rec_stand [] [] h = tt
@@ -370,11 +372,14 @@ module _ (p : Bare) (declared : From 10 (flat_map datas_at p.nodes)) where
   stands_of g r t (f.is_int i w) o le = λ j at. (w, tt)
   stands_of g r t (f.is_char x w) o le = λ j at. (w, tt)
   stands_of g r t (f.is_text x w) o le = λ j at. (w, tt)
-  stands_of g r t (f.is_variable x w) o le = λ j at. (o.vars x w, tt)
-  stands_of g r t (f.is_constructor x w) o le = λ j at. (con_stands g o x w, tt)
-  stands_of g r t (f.is_builtin b) o le = λ j at. (tt, tt)
+  stands_of g r t (f.is_variable x w) o le = λ j at. (o.vars x w.0, tt)
+  stands_of g r t (f.is_constructor x w e) o le = λ j at. (con_stands g o x w, tt)
+  stands_of g r t (f.is_builtin b e) o le = λ j at. (tt, tt)
   stands_of g r t (f.is_record labs w h) o le = λ j at. (row_is (roots j t) labs w, stands_of g (f.expressions (length labs)) t h o le j at)
-  stands_of g r t (f.is_app h) o le = λ j at. (tt, stands_of g (f.expressions 2) t h o le j at)
+  stands_of g r t (f.is_app h) o le = λ j at. (tt, stands_of g f.call t h o le j at)
+  stands_of g r t (f.call_expression h) o le = λ j at. stands_of g (f.expressions 2) t h o le j at
+  stands_of g r t (f.call_constructor {f = rest} x w h) o le = λ j at. (con_stands g o x w, tt, stands_of g (f.expressions 1) rest h o le (suc (j + 0)) at.2)
+  stands_of g r t (f.call_builtin {f = rest} b h) o le = λ j at. (tt, tt, stands_of g (f.expressions 1) rest h o le (suc (j + 0)) at.2)
   stands_of g r t (f.is_case {k = k} {n = n} {a = a} {parts = parts} {rest = rest} h i) o le = λ j at.
       let x = stands_of g (f.expression a) parts h o (le_through (length k.names) (length n.names) (is_grows f.rules rest i) le) (suc j) at.1 in
       (tt, (x.0, x.1, stands_of g f.rules rest i o le (suc (j + size parts)) at.2))

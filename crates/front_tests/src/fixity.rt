@@ -2,7 +2,7 @@
 
 use sml_fixity::parse;
 use sml_lexer::tokens;
-use smlc_base::{CompileError, Refusal};
+use smlc_base::{CompileError, Names, Refusal};
 use std::alloc::{AllocError, Global};
 use std::test::Fail;
 
@@ -66,7 +66,7 @@ const ROWS: [(&[u8], &str); 30] = [
 
 fn outcome(alloc: Global, file: &[u8]) -> Result<String, AllocError> {
     let bytes = file.to_vec(alloc)?;
-    let lexed = match tokens(alloc, &[bytes]) {
+    let lexed = match tokens(alloc, &Names::new(alloc), &[], 1, &[bytes]) {
         Ok(lexed) => lexed,
         Err(_) => return String::from_str(alloc, "no tokens"),
     };

@@ -4,8 +4,8 @@ use Rattle.std.specs.Prelude.{slice_get}
 use Rattle.std.proofs.lemmas.Option.{slice_get-get_or}
 use Rattle.smlc_base.specs.declared.names.Name.{Name}
 use Rattle.sml_types.specs.Library.{name_types, library_exn}
-use Rattle.sml_tree.specs.declared.bare.LibraryExn.{LibraryExn}
-use Rattle.sml_tree.specs.declared.bare.LibraryExn.TheVariants.{FailExn}
+use Rattle.smlc_base.specs.declared.exception.LibraryExn.{LibraryExn}
+use Rattle.smlc_base.specs.declared.exception.LibraryExn.TheVariants.{FailExn}
 use Rattle.infer_state.specs.Rules.{IsNamedAt}
 use Rattle.infer_state.specs.Fits.{settled_at}
 use Rattle.std.proofs.Math.Seq.{take-suc}

@@ -18,11 +18,11 @@ use crate::instance::data_type;
 use crate::make::{REF, function, library_type};
 use crate::vars::{name_ty, node_ty};
 use infer_state::{Declared, Failure};
-use sml_tree::bare::{Con, LibraryExn};
+use sml_tree::bare::Con;
 use sml_tree::{Bare, Node};
 use sml_types::{Ty, Types};
 use sml_unify::pair::Pair;
-use smlc_base::{NoMemory, Row};
+use smlc_base::{LibraryExn, NoMemory, Row};
 use std::alloc::Global;
 
 // A constructor with new variables for the parameters of its type name. What is asked of an exception's type goes into the pairs.

@@ -7,9 +7,9 @@ ghost use Rattle.infer_parts.specs.Written.{AreThere};
 ghost use Rattle.infer_nodes.specs.Made.{IsFixed};
 
 use infer_parts::written::pushed;
-use sml_tree::bare::{Lab, LibraryExn};
+use sml_tree::bare::Lab;
 use sml_types::{Field, Ty, TyForm, Types};
-use smlc_base::{NoMemory, Row};
+use smlc_base::{LibraryExn, NoMemory, Row};
 use std::alloc::Global;
 
 /// The numbers of type names of the library.

@@ -16,6 +16,3 @@ pub mod written;
 pub use held::covers;
 pub use library::{LibraryTypes, make_library};
 pub use plain::non_expansive;
-
-#[cfg(test)]
-mod tests;

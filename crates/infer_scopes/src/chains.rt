@@ -14,7 +14,7 @@ use std::marker::Model;
 /// An item, with the cell that its list goes on with, a cell further down, and the length of the list.
 ///
 /// The jumps are those of a skew binary counter, so that a walk comes to a cell far down in few steps (Myers, An applicative random-access stack, 1983).
-#[derive(Clone, Copy, Debug, Drop)]
+#[derive(Clone, Copy, Drop)]
 pub struct Cell {
     pub item: u32,
     pub next: Option<u32>,
@@ -23,7 +23,7 @@ pub struct Cell {
 }
 
 /// Lists, each named by its first cell.
-#[derive(Debug, Drop)]
+#[derive(Drop)]
 pub struct Chains {
     cells: Row<Cell>,
 }

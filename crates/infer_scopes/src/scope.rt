@@ -9,7 +9,7 @@ use crate::chains::Chains;
 use smlc_base::NoMemory;
 
 /// The lists of a context, and of its names whose schemes may have free variables.
-#[derive(Clone, Copy, Debug, Drop)]
+#[derive(Clone, Copy, Drop)]
 pub struct Scope {
     pub type_names: Option<u32>,
     pub tyvars: Option<u32>,
@@ -28,7 +28,7 @@ pub(crate) const NOTHING: Scope = Scope {
 };
 
 /// What a context gets at the fronts of its lists.
-#[derive(Clone, Copy, Debug, Drop)]
+#[derive(Clone, Copy, Drop)]
 pub struct Added<'a> {
     pub type_names: &'a [u32],
     pub tyvars: &'a [u32],

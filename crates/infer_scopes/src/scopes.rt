@@ -20,7 +20,7 @@ use std::alloc::Global;
 use std::marker::Model;
 
 /// The contexts of the nodes that have one, in lists that share their ends.
-#[derive(Debug, Drop)]
+#[derive(Drop)]
 pub struct Scopes {
     chains: Chains,
     scopes: Row<Option<Scope>>,

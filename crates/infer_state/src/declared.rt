@@ -4,7 +4,7 @@ use sml_types::{Scheme, Tables};
 use smlc_base::Row;
 
 /// The numbers of the forms from which inference starts: the first explicit type variable, the variable that stands for the type of node 0, and that of name 0. The others follow in order.
-#[derive(Clone, Copy, Debug, Drop)]
+#[derive(Clone, Copy, Drop)]
 pub struct Starts {
     pub explicit: u32,
     pub nodes: u32,

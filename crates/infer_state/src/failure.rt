@@ -5,7 +5,7 @@ use smlc_base::NoMemory;
 use std::alloc::{AllocError, AllocFailed};
 
 /// There is no typing, or memory is wanting.
-#[derive(Clone, Copy, PartialEq, Eq, Debug, Drop)]
+#[derive(Clone, Copy, Drop)]
 pub enum Failure {
     Untypable,
     NoMemory,

@@ -2,7 +2,8 @@
 use Rattle.std.proofs.Common.{map, slice_get, ◌≡◌, ◌≢◌, ℕ, suc, ◌≤◌, List, [], ◌∷◌, ◌++◌, length, Some, None, Bool, true, false, cond, ◌||◌, refl, arith}
 use Rattle.smlc_base.specs.declared.point.Point.{Point}
 use Rattle.smlc_base.specs.declared.point.PointKind.TheVariants.{Eq}
-use Rattle.simulation.specs.Runs.{is_label, is_point, times}
+use Rattle.simulation.specs.Runs.{times}
+use Rattle.smlc_base.specs.Points.{is_label, is_point}
 use Rattle.simulation.specs.Keeps.{Keeps}
 use Rattle.simulation.specs.Machines.{Machine, IsLive}
 use Rattle.simulation.specs.Stores.{Configuration, machine_of}

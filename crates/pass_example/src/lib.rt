@@ -48,19 +48,3 @@ fn lower_all(alloc: Global, program: &[Op]) -> Result<Vec<Instr>, AllocError>
     }
     Ok(code)
 }
-
-#[cfg(test)]
-mod tests {
-    use super::*;
-    use std::test::Fail;
-
-    #[test]
-    fn leaves_out_what_does_nothing(rt: HostRuntime) -> Result<(), Fail> {
-        let program = [Op::Say(1), Op::Skip, Op::Say(2)];
-        let code = lower(rt.alloc(), &program)?;
-        assert_eq!(rt; code.len(), 2);
-        assert_eq!(rt; code.get(0), Some(&Instr::Emit(1)));
-        assert_eq!(rt; code.get(1), Some(&Instr::Emit(2)));
-        Ok(())
-    }
-}

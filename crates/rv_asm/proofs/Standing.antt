@@ -21,9 +21,10 @@ use Rattle.rv_asm.specs.Item.{size, words, IsSound, IsNear}
 use Rattle.rv_asm.specs.Pair.{upper, lower, arrives}
 use Rattle.rv_asm.specs.Layout.{place_in, place_of, code_at, code_from, bytes_of, address, addresses, Holds, Stands, AllStand}
 use Rattle.rv_asm.specs.Program.{Program, IsReady}
-use Rattle.rv_asm.specs.Whole.{IsWhole}
+use Rattle.rv_asm.specs.Whole.{IsPlace, IsWhole}
 use Rattle.rv_asm.proofs.Lists.{bytes_of-append, length-bytes_of, length-code_from, code_around}
 use Rattle.rv_asm.proofs.PairLaws.{arrives_there}
+use Rattle.rv_asm.proofs.Growing.{near_if}
 use Rattle.rv_asm.proofs.Fitting.{auipc_fits, addi_fits, jalr_fits}
 
 word_below : (i : Ins) → Fits i → word_of i < 4294967296
@@ -55,12 +56,12 @@ record IsHere (base : ℕ) (at : List ℕ) (places : List (Option ℕ)) (label :
   pub near : IsNear (place_of places label)
   pub address : slice_get at label ≡ Some (base + 4 * place_of places label)
 
-here_by : (base : ℕ) (at : List ℕ) (places : List (Option ℕ)) (label count : ℕ) (o : Option ℕ) → at ≡ addresses base places → slice_get places label ≡ Some o → IsSome o → IfSome o (λ n. n ≤ count) → IsNear count → IsHere base at places label
+here_by : (base : ℕ) (at : List ℕ) (places : List (Option ℕ)) (label count : ℕ) (o : Option ℕ) → at ≡ addresses base places → slice_get places label ≡ Some o → IsSome o → IfSome o (IsPlace count) → IsNear count → IsHere base at places label
 here_by base at places label count None a e s p n = cc
-here_by base at places label count (Some m) a e s p n =
+here_by base at places label count (Some m) a e s p q =
     let f : place_of places label ≡ m = ap place_in e in
     record {
-      near = omega arith;
+      near = subst IsNear (sym f) (near_if count q (Some m) p);
       address = ap (λ xs. slice_get xs label) a ∙ (slice_get-map (address base) places label ∙ (ap (option_map (address base)) e ∙ ap (λ k. Some (base + 4 * k)) (sym f)));
     }
 
@@ -72,7 +73,7 @@ pub record IsLaidOut (base : ℕ) (code : Code) (items : List Item) (places : Li
   pub at : code.at ≡ addresses base places
   pub sound : All (IsSound (length places)) items
   pub bound : All IsSome places
-  pub placed : All (λ place. IfSome place (λ n. n ≤ words items)) places
+  pub placed : All (λ place. IfSome place (IsPlace (words items))) places
   pub near : IsNear (words items)
   pub low : base ≤ 2 ^ 63
   pub aligned : base % 4 ≡ 0

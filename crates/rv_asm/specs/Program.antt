@@ -22,6 +22,10 @@ with_label p = record p { places = p.places ++ None ∷ [] }
 abbrev pub with_place : Program → ℕ → Program
 with_place p label = record p { places = slice_set p.places label (Some (words p.items)) }
 
+-- the label is bound to the place behind so many instructions, where data may stand
+abbrev pub with_place_at : Program → ℕ → ℕ → Program
+with_place_at p label n = record p { places = slice_set p.places label (Some n) }
+
 -- the label was made
 abbrev pub IsMade : Program → ℕ → Type 0
 IsMade p label = label < length p.places

@@ -2,8 +2,8 @@
 
 ghost use Rattle.std.specs.Prelude.{◌≡◌, ◌<◌, length, IfOk, OnOk, OnErr};
 ghost use Rattle.rv_isa.specs.Word.{Fits};
-ghost use Rattle.rv_asm.specs.Item.{IsSound};
-ghost use Rattle.rv_asm.specs.Program.{Program, empty, with_item, with_label, with_place, IsMade, IsFree, IsReady};
+ghost use Rattle.rv_asm.specs.Item.{IsSound, IsNear};
+ghost use Rattle.rv_asm.specs.Program.{Program, empty, with_item, with_label, with_place, with_place_at, IsMade, IsFree, IsReady};
 ghost use Rattle.rv_asm.specs.Layout.{code_of, bytes_of, addresses, AllStand};
 
 use crate::code::Code;
@@ -107,6 +107,16 @@ impl Asm {
         ensures { self.new ≡ with_place self.old label }
     {
         self.places[label as usize] = Some(self.words);
+    }
+
+    /// Binds the label to the place behind so many instructions, which may lie behind the program: so
+    /// data that stand behind it have labels too. It takes no memory.
+    pub fn bind_at(&mut self, label: u32, place: u64)
+        requires free { IsFree self.old label }
+        requires near { IsNear place }
+        ensures { self.new ≡ with_place_at self.old label place }
+    {
+        self.places[label as usize] = Some(place);
     }
 
     /// The program laid out at the address. It takes time in proportion to the program.

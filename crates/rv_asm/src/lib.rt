@@ -12,6 +12,3 @@ mod pair;
 pub use asm::Asm;
 pub use code::Code;
 pub use item::Item;
-
-#[cfg(test)]
-mod tests;

@@ -8,6 +8,3 @@ pub mod word;
 
 pub use table::{Format, Op, Shape};
 pub use word::{Ins, decode, encode, fits};
-
-#[cfg(test)]
-mod tests;

@@ -8,3 +8,4 @@ pub mod Reads
 pub mod Run
 pub mod Memory
 pub mod Load
+pub mod Flat

@@ -19,7 +19,7 @@ pub record World : Type 0 where
   pub err : List ℕ
 
 -- What the outside answers to one read or write: how many bytes moved.
--- A read of an input that isn't told also leaves some bytes in the range.
+-- A read of an input that isn't told also leaves some bytes in the range; of both it is as much as the range has that counts.
 pub record Cut : Type 0 where
   pub count : ℕ
   pub range : List ℕ
@@ -50,7 +50,7 @@ with_read at n piece s = (writes 10 n (record s { bytes = overwritten at piece s
 -- the read of a range: the state and the input after it
 abbrev pub read_of : ℕ → ℕ → List Cut → Option (List ℕ) → State → State × Option (List ℕ)
 read_of at size cuts (Some bytes) s = let n = moved cuts (min size (length bytes)) in (with_read at n (take n bytes) s, Some (drop n bytes))
-read_of at size (c ∷ cs) None s = (with_read at c.count c.range s, None)
+read_of at size (c ∷ cs) None s = (with_read at (min size c.count) (take size c.range) s, None)
 read_of at size [] None s = (with_read at 0 [] s, None)
 
 abbrev pub with_piece : ℕ → List ℕ → World → World
@@ -101,14 +101,14 @@ mend_of (ended.Exit n) = Exited n
 mend_of (ended.Trap pc word) = Trapped pc word
 mend_of _ = Runs
 
--- Nothing of the state changed, but where the input doesn't tell its bytes: some bytes may have.
-abbrev pub Scratched : Option (List ℕ) → State → State → Type 0
-Scratched (Some bytes) s t = t ≡ s
-Scratched None s t = (at : ℕ) × (range : List ℕ) × (t ≡ record s { bytes = overwritten at range s.bytes })
+-- Nothing of the state changed, but where the input doesn't tell its bytes: bytes of this range may have.
+abbrev pub Scratched : ℕ → ℕ → Option (List ℕ) → State → State → Type 0
+Scratched at size (Some bytes) s t = t ≡ s
+Scratched at size None s t = (range : List ℕ) × (length range ≤ size) × (t ≡ record s { bytes = overwritten at range s.bytes })
 
--- the state that was reached stands, but for the range of a read that failed
+-- the state that was reached stands, but for the range of a read that failed, which is the one that its next step asks for
 abbrev pub Stands : Option End → Option (List ℕ) → State → State → Type 0
-Stands (Some ended.ReadFault) left s t = Scratched left s t
+Stands (Some ended.ReadFault) left s t = (at : ℕ) × (size : ℕ) × ((step_of s).0 ≡ Read at size) × Scratched at size left s t
 Stands _ left s t = t ≡ s
 
 -- A fault stands at the call that was not done: the next step asks for it, and a later run does it again.
@@ -117,11 +117,17 @@ Asks (Some ended.ReadFault) s = (at : ℕ) × (size : ℕ) × ((step_of s).0 ≡
 Asks (Some ended.WriteFault) s = (to : ℕ) × (at : ℕ) × (size : ℕ) × ((step_of s).0 ≡ Write to at size)
 Asks _ s = Unit {0}
 
--- A run of at most so many instructions, all of them where the end is Steps, with what out and err gained.
+abbrev pub IsFault : End → Type 0
+IsFault ended.ReadFault = Unit {0}
+IsFault ended.WriteFault = Unit {0}
+IsFault _ = ⊥
+
+-- A run of at most so many instructions, all of them where the end is Steps and fewer where it is a fault, with what out and err gained.
 pub record RunsTo (steps : ℕ) (s t : State) (left left_now out out_now err err_now : Option (List ℕ)) (end : End) : Type 0 where
   pub count : ℕ
   pub within : count ≤ steps
   pub all : end ≡ ended.Steps → count ≡ steps
+  pub fewer : IsFault end → count < steps
   pub reached : State
   pub wrote : List ℕ
   pub wrote_err : List ℕ
@@ -148,7 +154,7 @@ ended_by _ = None
 -- a read that was served, and a write
 abbrev pub ServesRead : Option (List ℕ) → ℕ → ℕ → State → State → Result (Unit {0}) Failed → Option (List ℕ) → Type 0
 ServesRead known at size s t (Ok u) left_now = (c : Cut) × (rest : Option (List ℕ)) × ((more : List Cut) → read_of at size (c ∷ more) known s ≡ (t, rest)) × Knows rest left_now
-ServesRead known at size s t (Err e) left_now = Scratched known s t × Knows known left_now
+ServesRead known at size s t (Err e) left_now = Scratched at size known s t × Knows known left_now
 
 abbrev pub ServesWrite : ℕ → ℕ → State → State → Result (Unit {0}) Failed → Option (List ℕ) → Option (List ℕ) → Type 0
 ServesWrite at size s t (Ok u) taken taken_now = (n : ℕ) × (n ≤ size) × (0 < size → 0 < n) × (t ≡ (writes 10 n s).1) × Gains taken taken_now (slice_range s.bytes at (at + n))

@@ -2,7 +2,8 @@
 use Rattle.std.proofs.Common.{◌≡◌, ℕ, ◌*◌, ◌≤◌, List, [], ◌∷◌, Bool, true, false, subst}
 use Rattle.smlc_base.specs.declared.point.Point.{Point}
 use Rattle.simulation.specs.Blocks.{IsPrefix, Reach}
-use Rattle.simulation.specs.Runs.{Run, is_label, seen}
+use Rattle.simulation.specs.Runs.{Run, seen}
+use Rattle.smlc_base.specs.Points.{is_label}
 use Rattle.simulation.specs.Keeps.{Follows, IsSound, IsTidy, IsKept, AllNamed, KeepsTidy, EachKeeps, last_of, IsNthPass, ReachesNoMore}
 use Rattle.simulation.specs.Words.{HasWords, HasMade, IsCharged, Affords, Any, ReachIsPaid, MakingIsPaid}
 use Rattle.simulation.proofs.Seen.{visible_of}

@@ -2,7 +2,8 @@
 use Rattle.std.proofs.Common.{◌≡◌, ◌≢◌, ℕ, Some, Bool, true, false, IsTrue, ◌⊎◌, inl, inr, refl, sym, ap, ◌∙◌, subst, subst₂}
 use Rattle.smlc_base.specs.declared.point.Point.{Point}
 use Rattle.simulation.specs.Blocks.{IsPrefix, Reach}
-use Rattle.simulation.specs.Runs.{Run, Going, Arena, is_label, visible, seen}
+use Rattle.simulation.specs.Runs.{Run, Going, Arena, visible, seen}
+use Rattle.smlc_base.specs.Points.{is_label}
 use Rattle.simulation.specs.Keeps.{ReachesNoMore, MakesNoMore, EndsFull, Follows, IsSound, IsTidy, IsKept, Keeps}
 use Rattle.simulation.proofs.Blocks.{prefix_refl, prefix_trans, embeds_id, embeds_trans}
 use Rattle.simulation.proofs.Seen.{visible_some, visible_label, visible_of, only, only-seen, only_prefix}

@@ -3,11 +3,12 @@ use Rattle.std.proofs.Common.{◌≡◌, ◌≢◌, ℕ, suc, ◌+◌, ◌<◌, 
 use Rattle.smlc_base.specs.declared.point.Point.{Point}
 use Rattle.smlc_base.specs.declared.point.PointKind.TheVariants.{Eq}
 use Rattle.simulation.specs.Blocks.{IsPrefix}
-use Rattle.simulation.specs.Runs.{Arena, is_label, times, visible}
+use Rattle.simulation.specs.Runs.{Arena, times, visible}
+use Rattle.smlc_base.specs.Points.{is_label}
 use Rattle.simulation.specs.Keeps.{AllNamed, HasTidyReach, IsSound, IsKept}
 use Rattle.simulation.specs.Machines.{Machine, state_at, run_from, IsLive, SteadyAt, IsSteady}
 use Rattle.simulation.proofs.Lists.{option_cases}
-use Rattle.simulation.proofs.Machines.{live_at, Walks, stay, walk, walks_on, more_of, Unseen, Calm, Makes, Reaches, Ending, StateMove, both_end, both_go, both_pass, b_fills, IsMachineSimulation, machines_keep}
+use Rattle.simulation.proofs.Machines.{live_at, Walks, stay, walk, walks_on, more_of, Unseen, Calm, Makes, Reaches, Ending, StateMove, both_end, both_go, both_pass, b_fills, IsMachineSimulation, MeetsAtEntries, machines_keep, machines_meet}
 
 -- ---- The answers
 
@@ -96,21 +97,33 @@ pub record IsForward {S T : Type 0} (full : Bool) (A : Machine S) (B : Machine T
   pub ended : (w : ℕ) (s : S) (t : T) → Known s → R w s t → A.step s ≡ None → Ends A B Quiet s t
   pub step : (w : ℕ) (s s' : S) (t : T) → Known s → R w s t → A.step s ≡ Some s' → Answer full A B labels Quiet (λ v u. R v s' u) w s t
 
+-- E holds where both pass a point: at related states, and where b has come to a state of its own.
+pub record IsMet {S T : Type 0} (A : Machine S) (B : Machine T) (labels : List Point) (Known : S → Type 0) (Quiet : T → Type 0) (E : S → T → Type 0) (R : ℕ → S → T → Type 0) : Type 0 where
+  pub here : (w : ℕ) (s : S) (t : T) (p : Point) → Known s → R w s t → visible labels (A.pass s) ≡ Some p → visible labels (B.pass t) ≡ Some p → E s t
+  pub after : (w d : ℕ) (s : S) (t u : T) (p : Point) → Known s → R w s t → Walks B Quiet d t u → Shows A B s u → visible labels (A.pass s) ≡ Some p → visible labels (B.pass u) ≡ Some p → E s u
+
+-- nothing is asked
+abbrev pub nothing : {S T : Type 0} → S → T → Type 0
+nothing s t = Unit {0}
+
+pub nothing_met : {S T : Type 0} (A : Machine S) (B : Machine T) (labels : List Point) (Known : S → Type 0) (Quiet : T → Type 0) (R : ℕ → S → T → Type 0) → IsMet A B labels Known Quiet nothing R
+nothing_met A B labels Known Quiet R = record { here = λ w s t p k r v u. tt; after = λ w d s t u p k r q h v x. tt }
+
 -- ---- The theorem
 
-module _ {S T : Type 0} (full : Bool) (A : Machine S) (B : Machine T) (labels : List Point) (Known : S → Type 0) (Quiet : T → Type 0) (R : ℕ → S → T → Type 0) (f : IsForward full A B labels Known Quiet R) where
+module _ {S T : Type 0} (full : Bool) (A : Machine S) (B : Machine T) (labels : List Point) (Known : S → Type 0) (Quiet : T → Type 0) (E : S → T → Type 0) (R : ℕ → S → T → Type 0) (f : IsForward full A B labels Known Quiet R) (met : IsMet A B labels Known Quiet E R) where
   calm_walk : (c : ℕ) (t u : T) → Walks B Quiet c t u → Walks B (Calm B labels) c t u
   calm_walk c t u w = more_of B Quiet (Calm B labels) f.calm c t u w
 
-  ends_move : (w : ℕ) (s : S) (t : T) → A.step s ≡ None → Shows A B s t → Ends A B Quiet s t → StateMove full A B labels R w s t
+  ends_move : (w : ℕ) (s : S) (t : T) → A.step s ≡ None → Shows A B s t → Ends A B Quiet s t → StateMove full A B labels E R w s t
   ends_move w s t e h (now g k) =
       both_end (record { c = 0; d = 0; to_a = s; to_b = t; walk_a = stay s; walk_b = stay t })
       (record { end_a = e; end_b = g; same = k; out = h.out; made = h.made; named = h.named })
   ends_move w s t e h (later d u v k) =
       both_end (record { c = 0; d = d; to_a = s; to_b = u; walk_a = stay s; walk_b = calm_walk d t u v }) k
 
-  together_move : (w d : ℕ) (s s' : S) (t u : T) → A.step s ≡ Some s' → Walks B Quiet d t u → Shows A B s u → Together A B labels Quiet (λ v u. R v s' u) s u → StateMove full A B labels R w s t
-  together_move w d s s' t u e v h g = let o = g.on in ⊎_elim
+  together_move : (w d : ℕ) (s s' : S) (t u : T) → A.step s ≡ Some s' → Walks B Quiet d t u → Shows A B s u → Together A B labels Quiet (λ v u. R v s' u) s u → ((p : Point) → visible labels (A.pass s) ≡ Some p → visible labels (B.pass u) ≡ Some p → E s u) → StateMove full A B labels E R w s t
+  together_move w d s s' t u e v h g m = let o = g.on in ⊎_elim
       (λ (n : visible labels (A.pass s) ≡ None).
       both_go (record {
         c = 1;
@@ -138,12 +151,13 @@ module _ {S T : Type 0} (full : Bool) (A : Machine S) (B : Machine T) (labels : 
         named = h.named;
         reaches = i.reaches;
         tidy = i.tidy;
+        fact = m n.0 n.1 (g.passes ∙ n.1);
         on = record { c = 0; d = o.steps; wait = o.wait; to_a = s'; to_b = o.to; walk_a = stay s'; walk_b = calm_walk o.steps g.next o.to o.walk; then = o.then };
       }))
       (option_cases (visible labels (A.pass s)))
 
-  step_move : (w : ℕ) (s s' : S) (t : T) → A.step s ≡ Some s' → Shows A B s t → Answer full A B labels Quiet (λ v u. R v s' u) w s t → StateMove full A B labels R w s t
-  step_move w s s' t e h (silent n g) =
+  step_move : (w : ℕ) (s s' : S) (t : T) → A.step s ≡ Some s' → Known s → R w s t → Shows A B s t → Answer full A B labels Quiet (λ v u. R v s' u) w s t → StateMove full A B labels E R w s t
+  step_move w s s' t e k r h (silent n g) =
       both_go (record {
         c = 1;
         d = g.steps;
@@ -154,9 +168,9 @@ module _ {S T : Type 0} (full : Bool) (A : Machine S) (B : Machine T) (labels : 
         walk_b = calm_walk g.steps t g.to g.walk;
         then = g.then;
       }) (⊎_elim (λ (q : 0 < g.steps). inl (lt-suc_self 0, q)) (λ (q : g.wait < w). inr q) g.moves)
-  step_move w s s' t e h (together g) = together_move w 0 s s' t t e (stay t) h g
-  step_move w s s' t e h (after d u v k g) = together_move w d s s' t u e v k g
-  step_move w s s' t e h (fills may g) =
+  step_move w s s' t e k r h (together g) = together_move w 0 s s' t t e (stay t) h g (λ p. met.here w s t p k r)
+  step_move w s s' t e k r h (after d u v x g) = together_move w d s s' t u e v x g (λ p. met.after w d s t u p k r v x)
+  step_move w s s' t e k r h (fills may g) =
       b_fills may (record {
         c = 0;
         d = g.steps;
@@ -170,14 +184,14 @@ module _ {S T : Type 0} (full : Bool) (A : Machine S) (B : Machine T) (labels : 
         made = g.made;
       })
 
-  pub forward_simulates : IsMachineSimulation full A B labels Known R
+  pub forward_simulates : IsMachineSimulation full A B labels Known E R
   forward_simulates = record {
     out = λ w s t k r. (f.shows w s t k r).out;
     made = λ w s t k r. (f.shows w s t k r).made;
     named = λ w s t k r. (f.shows w s t k r).named;
     move = λ w s t k r. ⊎_elim
         (λ (e : A.step s ≡ None). ends_move w s t e (f.shows w s t k r) (f.ended w s t k r e))
-        (λ (e : (s' : S) × (A.step s ≡ Some s')). step_move w s e.0 t e.1 (f.shows w s t k r) (f.step w s e.0 t k r e.1))
+        (λ (e : (s' : S) × (A.step s ≡ Some s')). step_move w s e.0 t e.1 k r (f.shows w s t k r) (f.step w s e.0 t k r e.1))
         (option_cases (A.step s));
   }
 
@@ -188,4 +202,9 @@ live_known A labels s sound n = live_at A s (λ m. sound.never_stuck m) n
 -- The forward simulation theorem: from related starts b keeps a.
 pub forward_keeps : {S T : Type 0} (full : Bool) (A : Machine S) (B : Machine T) (la lb : List Point) (s : S) (t : T) (Known : S → Type 0) (Quiet : T → Type 0) (R : ℕ → S → T → Type 0) → (IsSound (run_from A la s) → (n : ℕ) → Known (state_at A s n)) → IsForward full A B lb Known Quiet R → IsSteady A → ((p : Point) → is_label lb p ≡ true → is_label la p ≡ true) → ((p : Point) → p.kind ≢ Eq → times p lb ≤ 1) → (w : ℕ) → R w s t → IsSound (run_from A la s) → IsKept full (run_from A la s) (run_from B lb t)
 forward_keeps full A B la lb s t Known Quiet R known f steady fewer once w start sound =
-    machines_keep full A B la lb s t Known (known sound) R (forward_simulates full A B lb Known Quiet R f) steady fewer once w start sound
+    machines_keep full A B la lb s t Known (known sound) nothing R (forward_simulates full A B lb Known Quiet nothing R f (nothing_met A B lb Known Quiet R)) steady fewer once w start sound
+
+-- And what is met where both pass a point is met at each entry of b.
+pub forward_meets : {S T : Type 0} (full : Bool) (A : Machine S) (B : Machine T) (la lb : List Point) (s : S) (t : T) (Known : S → Type 0) (Quiet : T → Type 0) (E : S → T → Type 0) (R : ℕ → S → T → Type 0) → ((n : ℕ) → Known (state_at A s n)) → IsForward full A B lb Known Quiet R → IsMet A B lb Known Quiet E R → IsSteady A → (w : ℕ) → R w s t → MeetsAtEntries A B la lb E s t
+forward_meets full A B la lb s t Known Quiet E R known f met steady w start =
+    machines_meet full A B la lb s t Known known E R (forward_simulates full A B lb Known Quiet E R f met) steady w start

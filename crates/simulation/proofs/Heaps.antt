@@ -220,18 +220,18 @@ heap_record small large f x r w h =
     is_one : (a : ℕ) (y : Block) → length small ≤ a → StandsAt (small ++ x ∷ []) a y → IsUncounted y
     is_one a y l s = subst IsUncounted (sym (stands_past small x y a l s).1) r
 
--- f, and c for the address a
-abbrev pub with_image : (ℕ → ℕ) → ℕ → ℕ → ℕ → ℕ
+-- f, and c for the number a
+abbrev pub with_image : {X : Type 0} → (ℕ → X) → ℕ → X → ℕ → X
 with_image f a c b = cond (b == a) c (f b)
 
-pub with_same : (f : ℕ → ℕ) (a c : ℕ) → with_image f a c a ≡ c
+pub with_same : {X : Type 0} (f : ℕ → X) (a : ℕ) (c : X) → with_image f a c a ≡ c
 with_same f a c = ap (λ t. cond t c (f a)) (eq-eqb a a refl)
 
-cond_off : (t : Bool) (a b c d : ℕ) → (t ≡ true → b ≡ a) → b ≢ a → cond t c d ≡ d
+cond_off : {X : Type 0} (t : Bool) (a b : ℕ) (c d : X) → (t ≡ true → b ≡ a) → b ≢ a → cond t c d ≡ d
 cond_off true a b c d h n = absurd (n (h refl))
 cond_off false a b c d h n = refl
 
-pub with_other : (f : ℕ → ℕ) (a c b : ℕ) → b ≢ a → with_image f a c b ≡ f b
+pub with_other : {X : Type 0} (f : ℕ → X) (a : ℕ) (c : X) (b : ℕ) → b ≢ a → with_image f a c b ≡ f b
 with_other f a c b n = cond_off (b == a) a b c (f b) (eqb-true b a) n
 
 -- The smaller makes one block x, for which the larger's block at c stands.

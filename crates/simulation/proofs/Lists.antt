@@ -2,7 +2,8 @@
 use Rattle.std.proofs.Common.{◌≡◌, ◌≢◌, ℕ, zero, suc, ◌<◌, ◌+◌, List, [], ◌∷◌, ◌++◌, map, set, length, Option, Some, None, slice_get, Bool, true, false, cond, ◌&&◌, ◌||◌, ◌⊎◌, inl, inr, refl, sym, ap, ◌∙◌, subst, arith, ⊎_elim, length-append}
 use Rattle.smlc_base.specs.declared.point.Point.{Point}
 use Rattle.simulation.specs.Blocks.{IsAmong}
-use Rattle.simulation.specs.Runs.{is_point, is_label, times}
+use Rattle.simulation.specs.Runs.{times}
+use Rattle.smlc_base.specs.Points.{is_point, is_label}
 
 -- what holds of the one holds of the other
 pub some_eq : {X : Type 0} (P : X → Type 0) (x y : X) → Some x ≡ Some y → P x → P y

@@ -4,12 +4,13 @@ use Rattle.std.proofs.lemmas.Bool.{cases_lt}
 use Rattle.smlc_base.specs.declared.point.Point.{Point}
 use Rattle.smlc_base.specs.declared.point.PointKind.TheVariants.{Eq}
 use Rattle.simulation.specs.Blocks.{IsPrefix, Reach, Embeds, Grows}
-use Rattle.simulation.specs.Runs.{Run, End, Going, Normal, Uncaught, Arena, Stuck, is_label, times, visible, IsLawful, IsGrowing}
+use Rattle.simulation.specs.Runs.{Run, End, Going, Normal, Uncaught, Arena, Stuck, times, visible, seen, IsLawful, IsGrowing}
+use Rattle.smlc_base.specs.Points.{is_label}
 use Rattle.simulation.specs.Keeps.{AllNamed, HasTidyReach, IsSound, IsKept}
 use Rattle.simulation.specs.Machines.{Machine, next_of, state_at, end_of, pass_of, run_from, IsLive, SteadyAt, IsSteady}
 use Rattle.simulation.proofs.Blocks.{prefix_refl, prefix_trans}
 use Rattle.simulation.proofs.Lists.{option_cases}
-use Rattle.simulation.proofs.Simulation.{from_on, IsQuiet, Move, ends, goes, passes, fills, IsSimulation, simulation_keeps}
+use Rattle.simulation.proofs.Simulation.{from_on, IsQuiet, Move, ends, goes, passes, fills, IsSimulation, simulation_keeps, simulation_meets}
 
 -- ---- The run of a machine is lawful
 
@@ -46,7 +47,7 @@ module _ {S : Type 0} (M : Machine S) (labels : List Point) (s : S) where
       from_on (λ j. IsPrefix (M.out (state_at M s i)) (M.out (state_at M s j))) i (prefix_refl (M.out (state_at M s i))) (λ j l h. prefix_trans (M.out (state_at M s i)) (M.out (state_at M s j)) (M.out (state_at M s (suc j))) h (tells_once steady j))
 
 -- where one run goes on from a state of another
-state-after : {S : Type 0} (M : Machine S) (s : S) (m n : ℕ) → state_at M (state_at M s m) n ≡ state_at M s (m + n)
+pub state-after : {S : Type 0} (M : Machine S) (s : S) (m n : ℕ) → state_at M (state_at M s m) n ≡ state_at M s (m + n)
 state-after M s m zero = ap (state_at M s) (sym (add-zero m))
 state-after M s m (suc n) =
     ap (λ t. next_of t (M.step t)) (state-after M s m n) ∙ ap (state_at M s) (sym (add-suc m n))
@@ -187,8 +188,8 @@ pub record GoesOn {S T : Type 0} (A : Machine S) (B : Machine T) (labels : List 
   pub walk_b : Walks B (Calm B labels) d t to_b
   pub then : R wait to_a to_b
 
--- both pass one point, and then go on
-pub record Passing {S T : Type 0} (A : Machine S) (B : Machine T) (labels : List Point) (R : ℕ → S → T → Type 0) (s : S) (t : T) : Type 0 where
+-- Both pass one point, where E holds of them, and then go on.
+pub record Passing {S T : Type 0} (A : Machine S) (B : Machine T) (labels : List Point) (E : S → T → Type 0) (R : ℕ → S → T → Type 0) (s : S) (t : T) : Type 0 where
   pub point : Point
   pub next_a : S
   pub next_b : T
@@ -202,6 +203,7 @@ pub record Passing {S T : Type 0} (A : Machine S) (B : Machine T) (labels : List
   pub named : AllNamed (B.memory t)
   pub reaches : Reaches A s B t
   pub tidy : HasTidyReach (B.memory t) (B.roots t)
+  pub fact : E s t
   pub on : GoesOn A B labels R (A.out s) next_a next_b
 
 -- b ends for want of arena
@@ -218,19 +220,24 @@ pub record Filling {S T : Type 0} (A : Machine S) (B : Machine T) (labels : List
   pub made : Makes A to_a B to_b
 
 -- What follows from related states. Before both end or pass, each may walk alone.
-pub data StateMove {S T : Type 0} (full : Bool) (A : Machine S) (B : Machine T) (labels : List Point) (R : ℕ → S → T → Type 0) (w : ℕ) (s : S) (t : T) : Type 0 where
-  both_end : (h : Walked A B labels s t) → Ending A B h.to_a h.to_b → StateMove full A B labels R w s t
-  both_go : (g : GoesOn A B labels R (A.out s) s t) → ((0 < g.c) × (0 < g.d)) ⊎ (g.wait < w) → StateMove full A B labels R w s t
-  both_pass : (h : Walked A B labels s t) → Passing A B labels R h.to_a h.to_b → StateMove full A B labels R w s t
-  b_fills : IsTrue full → Filling A B labels s t → StateMove full A B labels R w s t
+pub data StateMove {S T : Type 0} (full : Bool) (A : Machine S) (B : Machine T) (labels : List Point) (E : S → T → Type 0) (R : ℕ → S → T → Type 0) (w : ℕ) (s : S) (t : T) : Type 0 where
+  both_end : (h : Walked A B labels s t) → Ending A B h.to_a h.to_b → StateMove full A B labels E R w s t
+  both_go : (g : GoesOn A B labels R (A.out s) s t) → ((0 < g.c) × (0 < g.d)) ⊎ (g.wait < w) → StateMove full A B labels E R w s t
+  both_pass : (h : Walked A B labels s t) → Passing A B labels E R h.to_a h.to_b → StateMove full A B labels E R w s t
+  b_fills : IsTrue full → Filling A B labels s t → StateMove full A B labels E R w s t
 
--- R w s t relates states of a and b; w says how often one of them may yet wait. Known is what holds of each state that a
+-- R w s t relates states of a and b; w says how often one of them may yet wait. E holds of the states in which both pass a point. Known is what holds of each state that a
 -- comes to: that it isn't stuck, say, and that its records are in order.
-pub record IsMachineSimulation {S T : Type 0} (full : Bool) (A : Machine S) (B : Machine T) (labels : List Point) (Known : S → Type 0) (R : ℕ → S → T → Type 0) : Type 0 where
+pub record IsMachineSimulation {S T : Type 0} (full : Bool) (A : Machine S) (B : Machine T) (labels : List Point) (Known : S → Type 0) (E : S → T → Type 0) (R : ℕ → S → T → Type 0) : Type 0 where
   pub out : (w : ℕ) (s : S) (t : T) → Known s → R w s t → B.out t ≡ A.out s
   pub made : (w : ℕ) (s : S) (t : T) → Known s → R w s t → Makes A s B t
   pub named : (w : ℕ) (s : S) (t : T) → Known s → R w s t → AllNamed (B.memory t)
-  pub move : (w : ℕ) (s : S) (t : T) → Known s → R w s t → StateMove full A B labels R w s t
+  pub move : (w : ℕ) (s : S) (t : T) → Known s → R w s t → StateMove full A B labels E R w s t
+
+-- at each entry of b, a passes the same point with the same passes before it, and E holds of both states
+abbrev pub MeetsAtEntries : {S T : Type 0} → Machine S → Machine T → List Point → List Point → (S → T → Type 0) → S → T → Type 0
+MeetsAtEntries A B la lb E s t =
+    (n : ℕ) (p : Point) → visible lb ((run_from B lb t).pass n) ≡ Some p → (m : ℕ) × (visible lb ((run_from A la s).pass m) ≡ Some p) × (seen lb (run_from A la s) m ≡ seen lb (run_from B lb t) n) × E (state_at A s m) (state_at B t n)
 
 -- an end is no going on
 end_of_none : {S : Type 0} (o : Option S) (e : End) → o ≡ None → end_of o e ≢ Going
@@ -241,7 +248,7 @@ end_of_none None Arena h f = cc
 end_of_none None Stuck h f = cc
 end_of_none (Some t) e h f = cc
 
-module _ {S T : Type 0} (full : Bool) (A : Machine S) (B : Machine T) (la lb : List Point) (s₀ : S) (t₀ : T) (Known : S → Type 0) (known : (n : ℕ) → Known (state_at A s₀ n)) (R : ℕ → S → T → Type 0) (sim : IsMachineSimulation full A B lb Known R) where
+module _ {S T : Type 0} (full : Bool) (A : Machine S) (B : Machine T) (la lb : List Point) (s₀ : S) (t₀ : T) (Known : S → Type 0) (known : (n : ℕ) → Known (state_at A s₀ n)) (E : S → T → Type 0) (R : ℕ → S → T → Type 0) (sim : IsMachineSimulation full A B lb Known E R) where
   abbrev a_at : ℕ → S
   a_at m = state_at A s₀ m
 
@@ -251,7 +258,7 @@ module _ {S T : Type 0} (full : Bool) (A : Machine S) (B : Machine T) (la lb : L
   -- where two runs are, between two related states
   data Stage (k m n : ℕ) : Type 0 where
     main : (w : ℕ) → k ≡ suc (suc w) → R w (a_at m) (b_at n) → Stage k m n
-    ready : k ≡ 1 → Passing A B lb R (a_at m) (b_at n) → Stage k m n
+    ready : k ≡ 1 → Passing A B lb E R (a_at m) (b_at n) → Stage k m n
     final : Ending A B (a_at m) (b_at n) → Stage k m n
 
   abbrev run_a : Run
@@ -260,7 +267,11 @@ module _ {S T : Type 0} (full : Bool) (A : Machine S) (B : Machine T) (la lb : L
   abbrev run_b : Run
   run_b = run_from B lb t₀
 
-  stage_waits : (k m n wait : ℕ) (h : Walked A B lb (a_at m) (b_at n)) → wait < k → ((i j : ℕ) → a_at i ≡ h.to_a → b_at j ≡ h.to_b → Stage wait i j) → Move full run_a run_b Stage k m n
+  -- the fact at a pass, by the steps of both runs
+  abbrev Meets : ℕ → ℕ → Type 0
+  Meets m n = E (a_at m) (b_at n)
+
+  stage_waits : (k m n wait : ℕ) (h : Walked A B lb (a_at m) (b_at n)) → wait < k → ((i j : ℕ) → a_at i ≡ h.to_a → b_at j ≡ h.to_b → Stage wait i j) → Move full run_a run_b Meets Stage k m n
   stage_waits k m n wait h less then =
       let Q = Silent A lb (A.out (a_at m)) in
       let ra = arrives A Q s₀ h.c m (a_at m) h.to_a h.walk_a refl in
@@ -279,11 +290,11 @@ module _ {S T : Type 0} (full : Bool) (A : Machine S) (B : Machine T) (la lb : L
         then = then ra.to rb.to ra.at rb.at;
       })
 
-  stage_main : (k m n w : ℕ) → k ≡ suc (suc w) → StateMove full A B lb R w (a_at m) (b_at n) → Move full run_a run_b Stage k m n
+  stage_main : (k m n w : ℕ) → k ≡ suc (suc w) → StateMove full A B lb E R w (a_at m) (b_at n) → Move full run_a run_b Meets Stage k m n
   stage_main k m n w e (both_end h p) =
       stage_waits k m n 0 h (omega arith) (λ i j f g. final (subst₂ (Ending A B) (sym f) (sym g) p))
   stage_main k m n w e (both_pass h p) =
-      stage_waits k m n 1 h (omega arith) (λ i j f g. ready refl (subst₂ (Passing A B lb R) (sym f) (sym g) p))
+      stage_waits k m n 1 h (omega arith) (λ i j f g. ready refl (subst₂ (Passing A B lb E R) (sym f) (sym g) p))
   stage_main k m n w e (both_go g p) =
       let Q = Silent A lb (A.out (a_at m)) in
       let ra = arrives A Q s₀ g.c m (a_at m) g.to_a g.walk_a refl in
@@ -326,7 +337,7 @@ module _ {S T : Type 0} (full : Bool) (A : Machine S) (B : Machine T) (la lb : L
     makes = λ k l v. ⊎_elim (λ (x : n < k). g.makes k x v) (λ (x : k ≤ n). let f : n ≡ k = omega arith in subst (λ i. Grows (run_b.memory i) (run_b.memory (suc i))) f (step_grows B t₀ n t e h).1) (cases_lt n k);
   }
 
-  stage_passes : (k m n : ℕ) → Passing A B lb R (a_at m) (b_at n) → Move full run_a run_b Stage k m n
+  stage_passes : (k m n : ℕ) → Passing A B lb E R (a_at m) (b_at n) → Move full run_a run_b Meets Stage k m n
   stage_passes k m n p =
       let g = p.on in
       let Q = Silent A lb (A.out (a_at m)) in
@@ -340,6 +351,7 @@ module _ {S T : Type 0} (full : Bool) (A : Machine S) (B : Machine T) (la lb : L
         going_b = ap (λ o. end_of o (B.end (b_at n))) p.step_b;
         reaches = p.reaches;
         tidy = p.tidy;
+        fact = p.fact;
         wait = suc (suc g.wait);
         to_a = ra.to;
         to_b = rb.to;
@@ -352,7 +364,7 @@ module _ {S T : Type 0} (full : Bool) (A : Machine S) (B : Machine T) (la lb : L
         then = main g.wait refl (subst₂ (R g.wait) (sym ra.at) (sym rb.at) g.then);
       })
 
-  stage_ends : (k m n : ℕ) → Ending A B (a_at m) (b_at n) → Move full run_a run_b Stage k m n
+  stage_ends : (k m n : ℕ) → Ending A B (a_at m) (b_at n) → Move full run_a run_b Meets Stage k m n
   stage_ends k m n e =
       ends (end_of_none (A.step (a_at m)) (A.end (a_at m)) e.end_a)
       (ap (λ o. end_of o (B.end (b_at n))) e.end_b ∙ ap (λ x. end_of {S = T} None x) e.same ∙ none_same (A.end (a_at m)) ∙ sym (ap (λ o. end_of o (A.end (a_at m))) e.end_a))
@@ -364,7 +376,7 @@ module _ {S T : Type 0} (full : Bool) (A : Machine S) (B : Machine T) (la lb : L
       none_same Arena = refl
       none_same Stuck = refl
 
-  stage_simulates : (w : ℕ) → R w s₀ t₀ → IsSimulation full run_a run_b Stage
+  stage_simulates : (w : ℕ) → R w s₀ t₀ → IsSimulation full run_a run_b Meets Stage
   stage_simulates w start = record {
     start = (suc (suc w), main w refl start);
     out = λ k m n. elim [ main v e r ↦ sim.out v (a_at m) (b_at n) (known m) r | ready e p ↦ p.out | final e ↦ e.out ];
@@ -380,7 +392,12 @@ module _ {S T : Type 0} (full : Bool) (A : Machine S) (B : Machine T) (la lb : L
   -- The general simulation theorem: a simulation from the starts gives all that a pass keeps.
   pub machines_keep : IsSteady A → ((p : Point) → is_label lb p ≡ true → is_label la p ≡ true) → ((p : Point) → p.kind ≢ Eq → times p lb ≤ 1) → (w : ℕ) → R w s₀ t₀ → IsSound (run_from A la s₀) → IsKept full (run_from A la s₀) (run_from B lb t₀)
   machines_keep steady_a fewer once w start sound =
-      simulation_keeps full run_a run_b (run_lawful A la s₀) (run_tells A la s₀ steady_a) (run_lawful B lb t₀) Stage (stage_simulates w start) fewer once sound
+      simulation_keeps full run_a run_b (run_lawful A la s₀) (run_tells A la s₀ steady_a) (run_lawful B lb t₀) Meets Stage (stage_simulates w start) fewer once sound
+
+  -- And at each entry of b the fact holds of its state and of the state of a that passes the point, with the same passes before it.
+  pub machines_meet : IsSteady A → (w : ℕ) → R w s₀ t₀ → MeetsAtEntries A B la lb E s₀ t₀
+  machines_meet steady_a w start =
+      simulation_meets full run_a run_b (run_lawful A la s₀) (run_tells A la s₀ steady_a) (run_lawful B lb t₀) Meets Stage (stage_simulates w start)
 
 -- ---- What each state of a run keeps
 

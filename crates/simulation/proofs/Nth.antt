@@ -6,7 +6,8 @@ use Rattle.std.proofs.Common.{◌⊎◌, inl, inr, IsTrue}
 use Rattle.smlc_base.specs.declared.point.Point.{Point}
 use Rattle.smlc_base.specs.declared.point.PointKind.{PointKind}
 use Rattle.smlc_base.specs.declared.point.PointKind.TheVariants.{Fn, Ret, Caught, Popped, Eq}
-use Rattle.simulation.specs.Runs.{Run, Arena, is_same_kind, is_point, is_label, times, visible, listed, seen, one_pass, passes_before}
+use Rattle.simulation.specs.Runs.{Run, Arena, times, visible, listed, seen, one_pass, passes_before}
+use Rattle.smlc_base.specs.Points.{is_same_kind, is_point, is_label}
 use Rattle.simulation.specs.Keeps.{ReachesNoMore, Follows, IsNthPass, EntriesArePasses}
 use Rattle.simulation.proofs.Lists.{both_true, times-append}
 use Rattle.simulation.proofs.Seen.{visible_some, visible_of}

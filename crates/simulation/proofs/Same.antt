@@ -2,8 +2,9 @@
 use Rattle.std.proofs.Common.{◌≡◌, ℕ, List, Some, None, true, false, sym, ap, ◌∙◌, subst, subst₂}
 use Rattle.smlc_base.specs.declared.point.Point.{Point}
 use Rattle.simulation.specs.Blocks.{Reach, Embeds}
-use Rattle.simulation.specs.Runs.{is_label, visible}
-use Rattle.simulation.specs.Keeps.{AllNamed, HasTidyReach, IsTidy}
+use Rattle.simulation.specs.Runs.{visible}
+use Rattle.smlc_base.specs.Points.{is_label}
+use Rattle.simulation.specs.Keeps.{AllNamed, NamesAtOnce, HasTidyReach, IsTidy}
 use Rattle.simulation.specs.Machines.{Machine, state_at, pass_of, run_from}
 use Rattle.simulation.proofs.Blocks.{embeds_id}
 use Rattle.simulation.proofs.Seen.{visible_some, visible_label, visible_of}
@@ -35,7 +36,7 @@ pub record IsTidyState {S : Type 0} (A : Machine S) (labels : List Point) (s : S
   pub reach : (next : S) (p : Point) → A.step s ≡ Some next → visible labels (A.pass s) ≡ Some p → HasTidyReach (A.memory s) (A.roots s)
 
 -- so it is at each state of a tidy run whose class records are named as soon as they are made
-pub tidy_known : {S : Type 0} (A : Machine S) (la lb : List Point) (s : S) → ((p : Point) → is_label lb p ≡ true → is_label la p ≡ true) → ((n : ℕ) → AllNamed (A.memory (state_at A s n))) → IsTidy false (run_from A la s) → (n : ℕ) → IsTidyState A lb (state_at A s n)
+pub tidy_known : {S : Type 0} (A : Machine S) (la lb : List Point) (s : S) → ((p : Point) → is_label lb p ≡ true → is_label la p ≡ true) → NamesAtOnce (run_from A la s) → IsTidy false (run_from A la s) → (n : ℕ) → IsTidyState A lb (state_at A s n)
 tidy_known A la lb s fewer named tidy n = record {
   named = named n;
   reach = λ next p e v.

@@ -2,7 +2,8 @@
 use Rattle.std.proofs.Common.{◌≡◌, ℕ, zero, suc, List, [], ◌∷◌, ◌++◌, Option, Some, None, Bool, true, false, cond, refl, sym, ap, ◌∙◌, subst}
 use Rattle.smlc_base.specs.declared.point.Point.{Point}
 use Rattle.simulation.specs.Blocks.{IsPrefix}
-use Rattle.simulation.specs.Runs.{Run, is_label, visible, listed, seen}
+use Rattle.simulation.specs.Runs.{Run, visible, listed, seen}
+use Rattle.smlc_base.specs.Points.{is_label}
 
 some_cond : (b : Bool) (p q : Point) → cond b (Some q) None ≡ Some p → Some q ≡ Some p
 some_cond true p q e = e

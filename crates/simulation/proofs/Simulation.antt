@@ -1,11 +1,12 @@
 -- From a simulation of two runs, step by step, to what a pass keeps. The relation R k m n stands between step m of a and
--- step n of b; k says how often one side may yet wait for the other.
+-- step n of b; k says how often one side may yet wait for the other. E m n is a fact that the simulation has where both pass a point.
 use Rattle.std.proofs.Common.{◌≡◌, ◌≢◌, ℕ, zero, suc, ◌<◌, ◌≤◌, List, [], ◌∷◌, ◌++◌, Some, None, Bool, true, IsTrue, ◌⊎◌, inl, inr, refl, sym, ap, ◌∙◌, subst, arith, append-nil, le_refl, ⊎_elim}
 use Rattle.std.proofs.lemmas.Bool.{cases_lt}
 use Rattle.smlc_base.specs.declared.point.Point.{Point}
 use Rattle.smlc_base.specs.declared.point.PointKind.TheVariants.{Eq}
 use Rattle.simulation.specs.Blocks.{Block, ClassRecord, IsPrefix, Embeds, Grows, StandsAt}
-use Rattle.simulation.specs.Runs.{Run, Going, Arena, Stuck, is_label, times, visible, listed, seen, IsLawful, IsGrowing}
+use Rattle.simulation.specs.Runs.{Run, Going, Arena, Stuck, times, visible, listed, seen, IsLawful, IsGrowing}
+use Rattle.smlc_base.specs.Points.{is_label}
 use Rattle.simulation.specs.Keeps.{ReachesNoMore, MakesNoMore, EndsFull, Follows, IsSound, IsNamedBy, AllNamed, HasTidyReach, IsKept}
 use Rattle.simulation.proofs.Blocks.{prefix_refl, prefix_trans, prefix_of_eq, grows_refl, grows_trans, embeds_grown}
 
@@ -80,7 +81,7 @@ pub record Goes (a b : Run) (R : ℕ → ℕ → ℕ → Type 0) (k m n : ℕ) :
   pub then : R wait to_a to_b
 
 -- both pass one point here, where b can reach no more, and then go on as above
-pub record Passes (a b : Run) (R : ℕ → ℕ → ℕ → Type 0) (m n : ℕ) : Type 0 where
+pub record Passes (a b : Run) (E : ℕ → ℕ → Type 0) (R : ℕ → ℕ → ℕ → Type 0) (m n : ℕ) : Type 0 where
   pub point : Point
   pub passes_a : visible b.labels (a.pass m) ≡ Some point
   pub passes_b : visible b.labels (b.pass n) ≡ Some point
@@ -88,6 +89,7 @@ pub record Passes (a b : Run) (R : ℕ → ℕ → ℕ → Type 0) (m n : ℕ) :
   pub going_b : b.end n ≡ Going
   pub reaches : ReachesNoMore a m b n
   pub tidy : HasTidyReach (b.memory n) (b.roots n)
+  pub fact : E m n
   pub wait : ℕ
   pub to_a : ℕ
   pub to_b : ℕ
@@ -114,19 +116,19 @@ pub record Fills (full : Bool) (a b : Run) (m n : ℕ) : Type 0 where
   pub wrote : IsPrefix (b.out to_b) (a.out to_a)
   pub made : MakesNoMore a to_a b to_b
 
-pub data Move (full : Bool) (a b : Run) (R : ℕ → ℕ → ℕ → Type 0) (k m n : ℕ) : Type 0 where
-  ends : a.end m ≢ Going → b.end n ≡ a.end m → Move full a b R k m n
-  goes : Goes a b R k m n → Move full a b R k m n
-  passes : Passes a b R m n → Move full a b R k m n
-  fills : Fills full a b m n → Move full a b R k m n
+pub data Move (full : Bool) (a b : Run) (E : ℕ → ℕ → Type 0) (R : ℕ → ℕ → ℕ → Type 0) (k m n : ℕ) : Type 0 where
+  ends : a.end m ≢ Going → b.end n ≡ a.end m → Move full a b E R k m n
+  goes : Goes a b R k m n → Move full a b E R k m n
+  passes : Passes a b E R m n → Move full a b E R k m n
+  fills : Fills full a b m n → Move full a b E R k m n
 
 -- R is a simulation: the starts are related, and related steps show the same and have moves
-pub record IsSimulation (full : Bool) (a b : Run) (R : ℕ → ℕ → ℕ → Type 0) : Type 0 where
+pub record IsSimulation (full : Bool) (a b : Run) (E : ℕ → ℕ → Type 0) (R : ℕ → ℕ → ℕ → Type 0) : Type 0 where
   pub start : (k : ℕ) × R k 0 0
   pub out : (k m n : ℕ) → R k m n → b.out n ≡ a.out m
   pub made : (k m n : ℕ) → R k m n → MakesNoMore a m b n
   pub named : (k m n : ℕ) → R k m n → AllNamed (b.memory n)
-  pub move : (k m n : ℕ) → R k m n → Move full a b R k m n
+  pub move : (k m n : ℕ) → R k m n → Move full a b E R k m n
 
 -- ---- What holds of all that lies before related steps
 
@@ -143,19 +145,19 @@ NamedSoon r n = (a : ℕ) (x : Block) → StandsAt (r.memory n) a x → x.kind �
 abbrev FullSoon : Run → ℕ → Type 0
 FullSoon r n = (k : ℕ) × (r.end k ≡ Arena) × IsPrefix (seen r.labels r k) (seen r.labels r n)
 
-pub record PastB (a b : Run) (n : ℕ) : Type 0 where
+pub record PastB (a b : Run) (E : ℕ → ℕ → Type 0) (n : ℕ) : Type 0 where
   going : b.end n ≡ Going
   tidy : (p : Point) → visible b.labels (b.pass n) ≡ Some p → HasTidyReach (b.memory n) (b.roots n)
   named : NamedSoon b n
   told : (m : ℕ) × IsPrefix (b.out n) (a.out m)
-  entered : (p : Point) → visible b.labels (b.pass n) ≡ Some p → (m : ℕ) × (visible b.labels (a.pass m) ≡ Some p) × (seen b.labels a m ≡ seen b.labels b n) × ReachesNoMore a m b n
+  entered : (p : Point) → visible b.labels (b.pass n) ≡ Some p → (m : ℕ) × (visible b.labels (a.pass m) ≡ Some p) × (seen b.labels a m ≡ seen b.labels b n) × ReachesNoMore a m b n × E m n
   made : (m : ℕ) × IsPrefix (seen b.labels a m) (seen b.labels b n) × MakesNoMore a m b n
 
-pub record Met (a b : Run) (R : ℕ → ℕ → ℕ → Type 0) (k m n : ℕ) : Type 0 where
+pub record Met (a b : Run) (E : ℕ → ℕ → Type 0) (R : ℕ → ℕ → ℕ → Type 0) (k m n : ℕ) : Type 0 where
   related : R k m n
   same : seen b.labels b n ≡ seen b.labels a m
   past_a : (i : ℕ) → i < m → PastA a b i
-  past_b : (j : ℕ) → j < n → PastB a b j
+  past_b : (j : ℕ) → j < n → PastB a b E j
 
 -- a quiet step of a, whose output b has
 quiet_past_a : (a b : Run) (i n : ℕ) → a.end i ≡ Going → visible b.labels (a.pass i) ≡ None → b.out n ≡ a.out i → PastA a b i
@@ -168,8 +170,8 @@ named_by b j n g s h a x t e =
     (n, c.0, c.1, c.2, s)
 
 -- a quiet step of b, before which nothing was passed that a hasn't passed by a later related step
-quiet_past_b : (a b : Run) (j m n : ℕ) → IsPrefix (b.out j) (b.out n) → Grows (b.memory j) (b.memory n) → b.end j ≡ Going → visible b.labels (b.pass j) ≡ None → b.out n ≡ a.out m → seen b.labels a m ≡ seen b.labels b j → MakesNoMore a m b n → NamedSoon b j → PastB a b j
-quiet_past_b a b j m n o w g u t s h d = record {
+quiet_past_b : (a b : Run) (E : ℕ → ℕ → Type 0) (j m n : ℕ) → IsPrefix (b.out j) (b.out n) → Grows (b.memory j) (b.memory n) → b.end j ≡ Going → visible b.labels (b.pass j) ≡ None → b.out n ≡ a.out m → seen b.labels a m ≡ seen b.labels b j → MakesNoMore a m b n → NamedSoon b j → PastB a b E j
+quiet_past_b a b E j m n o w g u t s h d = record {
   going = g;
   tidy = λ p e. let f : Some p ≡ None = sym e ∙ u in absurd (cc);
   named = d;
@@ -178,8 +180,8 @@ quiet_past_b a b j m n o w g u t s h d = record {
   made = (m, prefix_of_eq (seen b.labels a m) (seen b.labels b j) s, makes_before a m b j n w h);
 }
 
-module _ (full : Bool) (a b : Run) (la : IsLawful a) (tells : (i j : ℕ) → i ≤ j → IsPrefix (a.out i) (a.out j)) (lb : IsLawful b) (R : ℕ → ℕ → ℕ → Type 0) (sim : IsSimulation full a b R) where
-  met_goes : (k m n : ℕ) → Met a b R k m n → (g : Goes a b R k m n) → Met a b R g.wait g.to_a g.to_b
+module _ (full : Bool) (a b : Run) (la : IsLawful a) (tells : (i j : ℕ) → i ≤ j → IsPrefix (a.out i) (a.out j)) (lb : IsLawful b) (E : ℕ → ℕ → Type 0) (R : ℕ → ℕ → ℕ → Type 0) (sim : IsSimulation full a b E R) where
+  met_goes : (k m n : ℕ) → Met a b E R k m n → (g : Goes a b R k m n) → Met a b E R g.wait g.to_a g.to_b
   met_goes k m n h g =
       let same_a = seen_quiet b.labels a m g.to_a g.quiet_a g.to_a g.on_a (le_refl g.to_a) in
       let same_b = seen_quiet b.labels b n g.to_b g.quiet_b g.to_b g.on_b (le_refl g.to_b) in
@@ -188,13 +190,13 @@ module _ (full : Bool) (a b : Run) (la : IsLawful a) (tells : (i j : ℕ) → i 
         same = same_b ∙ h.same ∙ sym same_a;
         past_a = λ i l. ⊎_elim (h.past_a i) (λ (u : m ≤ i). quiet_past_a a b i n (g.quiet_a.going i u l) (g.quiet_a.unseen i u l) (sim.out k m n h.related ∙ sym (g.silent i u l))) (cases_lt i m);
         past_b = λ j l. ⊎_elim (h.past_b j) (λ (u : n ≤ j).
-            quiet_past_b a b j g.to_a g.to_b (out_grows b n g.to_b g.grows_b j g.to_b u (omega arith) (le_refl g.to_b)) (memory_grows b n g.to_b g.grows_b j g.to_b u (omega arith) (le_refl g.to_b)) (g.quiet_b.going j u l) (g.quiet_b.unseen j u l) (sim.out g.wait g.to_a g.to_b g.then)
+            quiet_past_b a b E j g.to_a g.to_b (out_grows b n g.to_b g.grows_b j g.to_b u (omega arith) (le_refl g.to_b)) (memory_grows b n g.to_b g.grows_b j g.to_b u (omega arith) (le_refl g.to_b)) (g.quiet_b.going j u l) (g.quiet_b.unseen j u l) (sim.out g.wait g.to_a g.to_b g.then)
             (same_a ∙ sym h.same ∙ sym (seen_quiet b.labels b n g.to_b g.quiet_b j u (omega arith)))
             (sim.made g.wait g.to_a g.to_b g.then)
             (named_by b j g.to_b (memory_grows b n g.to_b g.grows_b j g.to_b u (omega arith) (le_refl g.to_b)) (prefix_of_eq (seen b.labels b g.to_b) (seen b.labels b j) (same_b ∙ sym (seen_quiet b.labels b n g.to_b g.quiet_b j u (omega arith)))) (sim.named g.wait g.to_a g.to_b g.then))) (cases_lt j n);
       }
 
-  met_passes : (k m n : ℕ) → Met a b R k m n → (g : Passes a b R m n) → Met a b R g.wait g.to_a g.to_b
+  met_passes : (k m n : ℕ) → Met a b E R k m n → (g : Passes a b E R m n) → Met a b E R g.wait g.to_a g.to_b
   met_passes k m n h g =
       let same_a = seen_quiet b.labels a (suc m) g.to_a g.quiet_a g.to_a g.on_a (le_refl g.to_a) in
       let same_b = seen_quiet b.labels b (suc n) g.to_b g.quiet_b g.to_b g.on_b (le_refl g.to_b) in
@@ -206,12 +208,12 @@ module _ (full : Bool) (a b : Run) (la : IsLawful a) (tells : (i j : ℕ) → i 
         told = (n, sim.out k m n h.related);
         passed = λ p e. (n, g.passes_b ∙ sym g.passes_a ∙ e, h.same);
       } in
-      let at_b : PastB a b n = record {
+      let at_b : PastB a b E n = record {
         going = g.going_b;
         tidy = λ p e. g.tidy;
         named = named_by b n n (grows_refl (b.memory n)) (prefix_refl (seen b.labels b n)) (sim.named k m n h.related);
         told = (m, prefix_of_eq (b.out n) (a.out m) (sim.out k m n h.related));
-        entered = λ p e. (m, g.passes_a ∙ sym g.passes_b ∙ e, sym h.same, g.reaches);
+        entered = λ p e. (m, g.passes_a ∙ sym g.passes_b ∙ e, sym h.same, g.reaches, g.fact);
         made = (m, prefix_of_eq (seen b.labels a m) (seen b.labels b n) (sym h.same), sim.made k m n h.related);
       } in
       record {
@@ -222,21 +224,21 @@ module _ (full : Bool) (a b : Run) (la : IsLawful a) (tells : (i j : ℕ) → i 
             (λ (v : i ≤ m). let e : m ≡ i = omega arith in subst (PastA a b) e at_a) (cases_lt m i)) (cases_lt i m);
         past_b = λ j l. ⊎_elim (h.past_b j) (λ (u : n ≤ j).
             ⊎_elim (λ (v : n < j).
-            quiet_past_b a b j g.to_a g.to_b (out_grows b n g.to_b g.grows_b j g.to_b u (omega arith) (le_refl g.to_b)) (memory_grows b n g.to_b g.grows_b j g.to_b u (omega arith) (le_refl g.to_b)) (g.quiet_b.going j v l) (g.quiet_b.unseen j v l) (sim.out g.wait g.to_a g.to_b g.then)
+            quiet_past_b a b E j g.to_a g.to_b (out_grows b n g.to_b g.grows_b j g.to_b u (omega arith) (le_refl g.to_b)) (memory_grows b n g.to_b g.grows_b j g.to_b u (omega arith) (le_refl g.to_b)) (g.quiet_b.going j v l) (g.quiet_b.unseen j v l) (sim.out g.wait g.to_a g.to_b g.then)
             (same_a ∙ sym one ∙ sym (seen_quiet b.labels b (suc n) g.to_b g.quiet_b j v (omega arith)))
             (sim.made g.wait g.to_a g.to_b g.then)
             (named_by b j g.to_b (memory_grows b n g.to_b g.grows_b j g.to_b u (omega arith) (le_refl g.to_b)) (prefix_of_eq (seen b.labels b g.to_b) (seen b.labels b j) (same_b ∙ sym (seen_quiet b.labels b (suc n) g.to_b g.quiet_b j v (omega arith)))) (sim.named g.wait g.to_a g.to_b g.then)))
-            (λ (v : j ≤ n). let e : n ≡ j = omega arith in subst (PastB a b) e at_b) (cases_lt n j)) (cases_lt j n);
+            (λ (v : j ≤ n). let e : n ≡ j = omega arith in subst (PastB a b E) e at_b) (cases_lt n j)) (cases_lt j n);
       }
 
   -- where the runs have come to: an end of both, an end for want of arena, or at least this far
   data Come (i j : ℕ) : Type 0 where
-    over : (k m n : ℕ) → Met a b R k m n → a.end m ≢ Going → b.end n ≡ a.end m → Come i j
-    full_at : (k m n : ℕ) → Met a b R k m n → Fills full a b m n → Come i j
-    far : (k m n : ℕ) → Met a b R k m n → i ≤ m → j ≤ n → Come i j
+    over : (k m n : ℕ) → Met a b E R k m n → a.end m ≢ Going → b.end n ≡ a.end m → Come i j
+    full_at : (k m n : ℕ) → Met a b E R k m n → Fills full a b m n → Come i j
+    far : (k m n : ℕ) → Met a b E R k m n → i ≤ m → j ≤ n → Come i j
 
   -- the moves go on until both runs have moved
-  further : (bound k m n i j : ℕ) → k < bound → Met a b R k m n → i ≤ m → j ≤ n → Come (suc i) (suc j)
+  further : (bound k m n i j : ℕ) → k < bound → Met a b E R k m n → i ≤ m → j ≤ n → Come (suc i) (suc j)
   further zero k m n i j l h u v = absurd (omega arith)
   further (suc bound) k m n i j l h u v =
       elim (sim.move k m n h.related) [
@@ -272,19 +274,19 @@ module _ (full : Bool) (a b : Run) (la : IsLawful a) (tells : (i j : ℕ) → i 
     named : NamedSoon b n ⊎ (IsTrue full × FullSoon b n)
     told : (m : ℕ) × IsPrefix (b.out n) (a.out m)
     ends : b.end n ≢ Going → ((m : ℕ) × (a.end m ≡ b.end n) × (a.out m ≡ b.out n)) ⊎ (IsTrue full × (b.end n ≡ Arena))
-    entered : (p : Point) → visible b.labels (b.pass n) ≡ Some p → (m : ℕ) × (visible b.labels (a.pass m) ≡ Some p) × (seen b.labels a m ≡ seen b.labels b n) × ReachesNoMore a m b n
+    entered : (p : Point) → visible b.labels (b.pass n) ≡ Some p → (m : ℕ) × (visible b.labels (a.pass m) ≡ Some p) × (seen b.labels a m ≡ seen b.labels b n) × ReachesNoMore a m b n × E m n
     made : (m : ℕ) × IsPrefix (seen b.labels a m) (seen b.labels b n) × MakesNoMore a m b n
 
   at_a_past : (m : ℕ) → PastA a b m → AtA m
   at_a_past m h = record { told = inl h.told; ends = λ e. absurd (e h.going); passed = λ p e. inl (h.passed p e) }
 
-  at_b_past : (n : ℕ) → PastB a b n → AtB n
+  at_b_past : (n : ℕ) → PastB a b E n → AtB n
   at_b_past n h = record { tidy = h.tidy; named = inl h.named; told = h.told; ends = λ e. absurd (e h.going); entered = h.entered; made = h.made }
 
   no_pass : (labels : List Point) (r : Run) → IsLawful r → (i : ℕ) → r.end i ≢ Going → (p : Point) → visible labels (r.pass i) ≡ Some p → ⊥
   no_pass labels r l i e p h = let f : None ≡ Some p = sym (ap (visible labels) (l.end_passes i e)) ∙ h in cc
 
-  at_a_over : (k m n : ℕ) → Met a b R k m n → a.end m ≢ Going → b.end n ≡ a.end m → (i : ℕ) → m ≤ i → AtA i
+  at_a_over : (k m n : ℕ) → Met a b E R k m n → a.end m ≢ Going → b.end n ≡ a.end m → (i : ℕ) → m ≤ i → AtA i
   at_a_over k m n h e f i l =
       let s = stays b.labels a la m e i l in
       let o = sim.out k m n h.related in
@@ -294,7 +296,7 @@ module _ (full : Bool) (a b : Run) (la : IsLawful a) (tells : (i j : ℕ) → i 
         passed = λ p v. absurd (no_pass b.labels a la i (λ g. e (sym s.end ∙ g)) p v);
       }
 
-  at_b_over : (k m n : ℕ) → Met a b R k m n → a.end m ≢ Going → b.end n ≡ a.end m → (j : ℕ) → n ≤ j → AtB j
+  at_b_over : (k m n : ℕ) → Met a b E R k m n → a.end m ≢ Going → b.end n ≡ a.end m → (j : ℕ) → n ≤ j → AtB j
   at_b_over k m n h e f j l =
       let e' : b.end n ≢ Going = λ g. e (sym f ∙ g) in
       let s = stays b.labels b lb n e' j l in
@@ -309,7 +311,7 @@ module _ (full : Bool) (a b : Run) (la : IsLawful a) (tells : (i j : ℕ) → i 
         made = (m, prefix_of_eq (seen b.labels a m) (seen b.labels b j) (sym h.same ∙ sym s.seen), subst (λ t. (f : ℕ → ℕ) × Embeds t (λ _. Unit {0}) (a.memory m) (λ _. Unit {0}) f) (sym s.memory) (sim.made k m n h.related));
       }
 
-  at_a_full : (k m n : ℕ) → Met a b R k m n → Fills full a b m n → (i : ℕ) → m ≤ i → AtA i
+  at_a_full : (k m n : ℕ) → Met a b E R k m n → Fills full a b m n → (i : ℕ) → m ≤ i → AtA i
   at_a_full k m n h g i l =
       ⊎_elim
       (λ (u : i < g.to_a). at_a_past i (quiet_past_a a b i n (g.quiet_a.going i l u) (g.quiet_a.unseen i l u) (sim.out k m n h.related ∙ sym (g.silent i l u))))
@@ -322,7 +324,7 @@ module _ (full : Bool) (a b : Run) (la : IsLawful a) (tells : (i j : ℕ) → i 
       })
       (cases_lt i g.to_a)
 
-  at_b_full : (k m n : ℕ) → Met a b R k m n → Fills full a b m n → (j : ℕ) → n ≤ j → AtB j
+  at_b_full : (k m n : ℕ) → Met a b E R k m n → Fills full a b m n → (j : ℕ) → n ≤ j → AtB j
   at_b_full k m n h g j l =
       let same_a = seen_quiet b.labels a m g.to_a g.quiet_a g.to_a g.on_a (le_refl g.to_a) in
       let same_b = seen_quiet b.labels b n g.to_b g.quiet_b g.to_b g.on_b (le_refl g.to_b) in
@@ -374,10 +376,14 @@ module _ (full : Bool) (a b : Run) (la : IsLawful a) (tells : (i j : ℕ) → i 
     told_only = λ n. (at_b n).told;
     ends = λ m. (at_a m).ends;
     ends_only = λ n. (at_b n).ends;
-    entered = λ n. (at_b n).entered;
+    entered = λ n p v. let h = (at_b n).entered p v in (h.0, h.1, h.2, h.3);
     passed = λ m. (at_a m).passed;
     made = λ n. (at_b n).made;
   }
+
+  -- at each entry the fact holds of the pass that it stands for
+  pub simulation_meets : (n : ℕ) (p : Point) → visible b.labels (b.pass n) ≡ Some p → (m : ℕ) × (visible b.labels (a.pass m) ≡ Some p) × (seen b.labels a m ≡ seen b.labels b n) × E m n
+  simulation_meets n p v = let h = (at_b n).entered p v in (h.0, h.1, h.2, h.4)
 
   -- and all that a pass keeps
   pub simulation_keeps : ((p : Point) → is_label b.labels p ≡ true → is_label a.labels p ≡ true) → ((p : Point) → p.kind ≢ Eq → times p b.labels ≤ 1) → IsSound a → IsKept full a b

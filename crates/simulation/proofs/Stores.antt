@@ -1,10 +1,10 @@
 -- Laws of machines that work on a list of items: none takes anything back, and class records stay named.
-use Rattle.std.proofs.Common.{◌≡◌, ◌≢◌, ℕ, ◌+◌, ◌<◌, List, [], ◌∷◌, ◌++◌, map, set, length, Option, Some, None, slice_get, Bool, true, false, cond, ◌&&◌, ◌==◌, refl, sym, ap, ◌∙◌, subst, arith, ⊎_elim, eqb-true, append-nil}
+use Rattle.std.proofs.Common.{◌≡◌, ◌≢◌, ℕ, ◌+◌, ◌<◌, List, [], ◌∷◌, ◌++◌, map, set, length, Option, Some, None, slice_get, Bool, true, false, cond, ◌&&◌, ◌==◌, refl, sym, ap, ◌∙◌, subst, arith, ⊎_elim, ◌⊎◌, inl, inr, eqb-true, append-nil}
 use Rattle.smlc_base.specs.declared.point.Point.{Point}
 use Rattle.simulation.specs.Blocks.{Kind, Closure, Frame, Datum, ClassRecord, SpillRecord, Inside, Block, IsAmong, IsPrefix, StandsAt, Grows}
 use Rattle.simulation.specs.Keeps.{AllNamed, HasTidyReach, IsTidy}
 use Rattle.simulation.specs.Machines.{state_at, run_from, IsSteady}
-use Rattle.simulation.specs.Stores.{Effect, Append, Put, Act, StoreMachine, Configuration, is_datum, may_replace, replaced, affected, affected_on, all_affected, configured, wrote, acted, puts, machine_of}
+use Rattle.simulation.specs.Stores.{Effect, Append, Put, Act, StoreMachine, Configuration, gives_way, may_replace, replaced, affected, affected_on, all_affected, configured, wrote, acted, puts, machine_of}
 use Rattle.simulation.proofs.Blocks.{prefix_refl, grows_refl, grows_trans}
 use Rattle.simulation.proofs.Heaps.{eq_cases, stands_map, stands_of}
 use Rattle.simulation.proofs.Lists.{both_true, some_eq, get_append, get_split, get_past, get_set_same, get_set_other}
@@ -31,25 +31,31 @@ grows_set view xs a x y at k w b z s =
     (λ (n : b ≢ a). (z, subst (λ t. slice_get (map view (set xs a y)) b ≡ Some t) p.2 (stands_of view (set xs a y) b p.0 (get_set_other xs a y b n ∙ p.1)), refl, refl))
     (eq_cases b a)
 
-pub is_datum_datum : (k : Kind) → is_datum k ≡ true → k ≡ Datum
-is_datum_datum (Closure p) e = cc
-is_datum_datum (Frame ps) e = cc
-is_datum_datum Datum e = refl
-is_datum_datum ClassRecord e = cc
-is_datum_datum SpillRecord e = cc
-is_datum_datum Inside e = cc
-
 -- what may replace a block
 pub record Replaces (old new : Block) : Type 0 where
-  pub old_datum : old.kind ≡ Datum
-  pub new_datum : new.kind ≡ Datum
+  pub same : new.kind ≡ old.kind
+  pub free : (old.kind ≡ Datum) ⊎ (old.kind ≡ SpillRecord)
   pub words : new.words ≡ old.words
+
+way_given : (k l : Kind) → gives_way k l ≡ true → (l ≡ k) × ((k ≡ Datum) ⊎ (k ≡ SpillRecord))
+way_given Datum Datum e = (refl, inl refl)
+way_given SpillRecord SpillRecord e = (refl, inr refl)
+way_given _ _ e = cc
+
+-- it is no closure and no class record
+free_closure : (k : Kind) (p : Point) → (k ≡ Datum) ⊎ (k ≡ SpillRecord) → k ≡ Closure p → ⊥
+free_closure k p (inl d) h = let t : Datum ≡ Closure p = sym d ∙ h in cc
+free_closure k p (inr d) h = let t : SpillRecord ≡ Closure p = sym d ∙ h in cc
+
+free_class : (k : Kind) → (k ≡ Datum) ⊎ (k ≡ SpillRecord) → k ≡ ClassRecord → ⊥
+free_class k (inl d) h = let t : Datum ≡ ClassRecord = sym d ∙ h in cc
+free_class k (inr d) h = let t : SpillRecord ≡ ClassRecord = sym d ∙ h in cc
 
 pub replaces : (old new : Block) → may_replace old new ≡ true → Replaces old new
 replaces old new e =
-    let h = both_true (is_datum old.kind && is_datum new.kind) (old.words == new.words) e in
-    let k = both_true (is_datum old.kind) (is_datum new.kind) h.0 in
-    record { old_datum = is_datum_datum old.kind k.0; new_datum = is_datum_datum new.kind k.1; words = sym (eqb-true old.words new.words h.1) }
+    let h = both_true (gives_way old.kind new.kind) (old.words == new.words) e in
+    let k = way_given old.kind new.kind h.0 in
+    record { same = k.0; free = k.1; words = sym (eqb-true old.words new.words h.1) }
 
 -- ---- One law for both effects
 
@@ -92,7 +98,7 @@ module _ {X : Type 0} (view : X → Block) where
   grown_trans xs ys zs p q = grows_trans (map view xs) (map view ys) (map view zs) p q
 
   grown_put : (xs : List X) (a : ℕ) (x y : X) → slice_get xs a ≡ Some x → Replaces (view x) (view y) → Grown xs (set xs a y)
-  grown_put xs a x y g r = grows_set view xs a x y g (r.new_datum ∙ sym r.old_datum) r.words
+  grown_put xs a x y g r = grows_set view xs a x y g r.same r.words
 
   all_fit : (o : Option (List X)) (es : List (Effect X)) → AllFit view (λ ys e. Unit {0}) o es
   all_fit o [] = tt
@@ -124,7 +130,7 @@ acted_steady view out xs (Some a) t e =
 pub store_steady : {C X : Type 0} (M : StoreMachine C X) → IsSteady (machine_of M)
 store_steady M s t e = acted_steady M.view s.out s.store (M.act s.control s.store) t e
 
--- a datum gives way to a datum of its length
+-- what may give way does, to what may take its place
 pub put_done : {X : Type 0} (view : X → Block) (xs : List X) (a : ℕ) (x y : X) → slice_get xs a ≡ Some x → may_replace (view x) (view y) ≡ true → affected view xs (Put a y) ≡ Some (set xs a y)
 put_done view xs a x y g m = ap (replaced view xs a y) g ∙ ap (λ b. cond b (Some (set xs a y)) None) m
 
@@ -195,7 +201,7 @@ module _ {X : Type 0} (view : X → Block) where
       (λ (e : b ≡ a).
       let i : Some p.0 ≡ Some y = sym p.1 ∙ ap (slice_get (set xs a y)) e ∙ get_set_same xs a y x g in
       let j : p.0 ≡ y = cc in
-      absurd (let t : Datum ≡ ClassRecord = sym r.new_datum ∙ ap (λ u. (view u).kind) (sym j) ∙ ap (λ t. t.kind) p.2 ∙ k in cc))
+      absurd (free_class (view x).kind r.free (sym r.same ∙ ap (λ u. (view u).kind) (sym j) ∙ ap (λ t. t.kind) p.2 ∙ k)))
       (λ (n : b ≢ a).
       let old : StandsAt (map view xs) b z = subst (λ t. StandsAt (map view xs) b t) p.2 (stands_of view xs b p.0 (sym (get_set_other xs a y b n) ∙ p.1)) in
       let q = h b z old k in
@@ -203,7 +209,7 @@ module _ {X : Type 0} (view : X → Block) where
       let off : q.0 ≢ a = λ e.
       let i : Some o.0 ≡ Some x = sym o.1 ∙ ap (slice_get xs) e ∙ g in
       let j : o.0 ≡ x = cc in
-      let t : Datum ≡ Closure q.2.point = sym r.old_datum ∙ ap (λ u. (view u).kind) (sym j) ∙ ap (λ t. t.kind) o.2 ∙ q.2.closure in cc in (
+      free_closure (view x).kind q.2.point r.free (ap (λ u. (view u).kind) (sym j) ∙ ap (λ t. t.kind) o.2 ∙ q.2.closure) in (
         q.0,
         q.1,
         record {
@@ -241,7 +247,21 @@ acted_named {C} {X} view out xs (Some a) t f e h = by (all_affected view (Some x
     by None h e = absurd (cc)
     by (Some zs) h e = some_eq (λ u. AllNamed (map view u.store)) (record { control = a.next; out = wrote out a.told; store = zs }) t e (h zs refl)
 
+-- how a step goes on
+acted_next : {C X : Type 0} (view : X → Block) (out : List ℕ) (xs : List X) (o : Option (Act C X)) (t : Configuration C X) (Fit : C → Type 0) → ((a : Act C X) → o ≡ Some a → Fit a.next) → acted view out xs o ≡ Some t → Fit t.control
+acted_next view out xs None t Fit f e = absurd (cc)
+acted_next {C} {X} view out xs (Some a) t Fit f e = by (all_affected view (Some xs) a.effects) e
+  where
+    by : (o : Option (List X)) → configured a.next (wrote out a.told) o ≡ Some t → Fit t.control
+    by None e = absurd (cc)
+    by (Some zs) e = some_eq (λ (u : Configuration C X). Fit u.control) (record { control = a.next; out = wrote out a.told; store = zs }) t e (f a refl)
+
 -- a machine that names its class records as it makes them has them named at each moment
 pub store_named : {C X : Type 0} (M : StoreMachine C X) → ((c : C) (xs : List X) (a : Act C X) → M.act c xs ≡ Some a → AllNameTheirs M.view (Some xs) a.effects) → (s : Configuration C X) → AllNamed (map M.view s.store) → (n : ℕ) → AllNamed ((machine_of M).memory (state_at (machine_of M) s n))
 store_named M own s h n =
     state_by (machine_of M) (λ u. AllNamed (map M.view u.store)) (λ u v k e. acted_named M.view u.out u.store (M.act u.control u.store) v (λ a g. own u.control u.store a g) e k) s h n
+
+-- so does one whose controls keep what is asked of them
+pub store_named_by : {C X : Type 0} (M : StoreMachine C X) (Fit : C → Type 0) → ((c : C) (xs : List X) (a : Act C X) → Fit c → M.act c xs ≡ Some a → Fit a.next × AllNameTheirs M.view (Some xs) a.effects) → (s : Configuration C X) → Fit s.control → AllNamed (map M.view s.store) → (n : ℕ) → AllNamed ((machine_of M).memory (state_at (machine_of M) s n))
+store_named_by {C} {X} M Fit own s f h n =
+    (state_by (machine_of M) (λ u. Fit u.control × AllNamed (map M.view u.store)) (λ u v k e. (acted_next M.view u.out u.store (M.act u.control u.store) v Fit (λ a g. (own u.control u.store a k.0 g).0) e, acted_named M.view u.out u.store (M.act u.control u.store) v (λ a g. (own u.control u.store a k.0 g).1) e k.1)) s (f, h) n).1

@@ -2,7 +2,7 @@
 use Rattle.std.proofs.Common.{◌≡◌, ◌≢◌, ℕ, List, Some, Bool, inl}
 use Rattle.smlc_base.specs.declared.point.Point.{Point}
 use Rattle.simulation.specs.Blocks.{Closure, ClassRecord, SpillRecord, Block, IsAmong, StandsAt, Reach, root, field}
-use Rattle.simulation.specs.Keeps.{AllNamed, IsNamedBy, HasTidyReach, IsTidy}
+use Rattle.simulation.specs.Keeps.{AllNamed, NamesAtOnce, IsNamedBy, HasTidyReach, IsTidy}
 use Rattle.simulation.specs.Runs.{Run, visible, seen}
 use Rattle.simulation.proofs.Blocks.{prefix_refl}
 
@@ -29,7 +29,7 @@ tidy_none memory roots never =
     (record { no_spill = λ a x _ s. (never a x s).1; by_closure = λ a x _ s e. absurd ((never a x s).0 e) }, λ a x s e. absurd ((never a x s).0 e))
 
 -- a run whose class records are named at each moment, and in order where it passes one of its points
-pub tidy_run : (full : Bool) (r : Run) → ((n : ℕ) → AllNamed (r.memory n)) → ((n : ℕ) (p : Point) → visible r.labels (r.pass n) ≡ Some p → HasTidyReach (r.memory n) (r.roots n)) → IsTidy full r
+pub tidy_run : (full : Bool) (r : Run) → NamesAtOnce r → ((n : ℕ) (p : Point) → visible r.labels (r.pass n) ≡ Some p → HasTidyReach (r.memory n) (r.roots n)) → IsTidy full r
 tidy_run full r named reach = record {
   reach = reach;
   named = λ n a x s k. let c = named n a x s k in inl (n, c.0, c.1, c.2, prefix_refl (seen r.labels r n));

@@ -3,7 +3,8 @@ use Rattle.std.specs.Prelude.{◌≡◌, ◌≢◌, ℕ, ◌<◌, ◌≤◌, Lis
 use Rattle.smlc_base.specs.declared.point.Point.{Point}
 use Rattle.smlc_base.specs.declared.point.PointKind.TheVariants.{Eq}
 use Rattle.simulation.specs.Blocks.{Block, Closure, ClassRecord, SpillRecord, IsAmong, IsPrefix, StandsAt, Reach, Embeds}
-use Rattle.simulation.specs.Runs.{Run, Going, Arena, Stuck, is_label, times, visible, seen, passes_before}
+use Rattle.simulation.specs.Runs.{Run, Going, Arena, Stuck, times, visible, seen, passes_before}
+use Rattle.smlc_base.specs.Points.{is_label}
 
 -- what b can reach at its step n lies one to one in what a can reach at its step m
 abbrev pub ReachesNoMore : Run → ℕ → Run → ℕ → Type 0
@@ -50,6 +51,10 @@ pub record IsNamedBy (memory : List Block) (a c : ℕ) : Type 0 where
 -- each class record is named by a closure that was made after it, since blocks are made at a memory's end
 abbrev pub AllNamed : List Block → Type 0
 AllNamed memory = (a : ℕ) (x : Block) → StandsAt memory a x → x.kind ≡ ClassRecord → (c : ℕ) × (a < c) × IsNamedBy memory a c
+
+-- It is so at each moment: a class record is made in one step with a closure that names it. A pass may owe this beside what it keeps.
+abbrev pub NamesAtOnce : Run → Type 0
+NamesAtOnce r = (n : ℕ) → AllNamed (r.memory n)
 
 -- no spill record can be reached, and a class record only where a closure can that names it
 pub record HasTidyReach (memory : List Block) (roots : List ℕ) : Type 0 where

@@ -2,7 +2,8 @@
 use Rattle.std.specs.Prelude.{◌≡◌, ◌≢◌, ℕ, true}
 use Rattle.smlc_base.specs.declared.point.Point.{Point}
 use Rattle.simulation.specs.Blocks.{Block, Datum, ClassRecord, StandsAt, Reach, IsCounted, IsLike}
-use Rattle.simulation.specs.Runs.{Run, Going, is_label}
+use Rattle.simulation.specs.Runs.{Run, Going}
+use Rattle.smlc_base.specs.Points.{is_label}
 use Rattle.simulation.specs.Keeps.{IsNthPass, IsNamedBy}
 
 -- an output of a never comes in b

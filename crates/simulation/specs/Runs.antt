@@ -1,8 +1,7 @@
 -- What a run of a program shows, step by step.
-use Rattle.std.specs.Prelude.{◌<◌, ◌≤◌, ◌≡◌, ◌≢◌, ℕ, zero, suc, ◌+◌, List, [], ◌∷◌, ◌++◌, Option, Some, None, Bool, true, false, cond, ◌&&◌, ◌||◌, ◌==◌}
+use Rattle.std.specs.Prelude.{◌<◌, ◌≤◌, ◌≡◌, ◌≢◌, ℕ, zero, suc, ◌+◌, List, [], ◌∷◌, ◌++◌, Option, Some, None, cond}
 use Rattle.smlc_base.specs.declared.point.Point.{Point}
-use Rattle.smlc_base.specs.declared.point.PointKind.{PointKind}
-use Rattle.smlc_base.specs.declared.point.PointKind.TheVariants.{Fn, Ret, Caught, Popped, Eq}
+use Rattle.smlc_base.specs.Points.{is_point, is_label}
 use Rattle.simulation.specs.Blocks.{Block, IsPrefix, Grows}
 
 -- how a run has ended
@@ -24,21 +23,6 @@ pub record Run : Type 0 where
   pub pass : ℕ → Option Point
   pub memory : ℕ → List Block
   pub roots : ℕ → List ℕ
-
-abbrev pub is_same_kind : PointKind → PointKind → Bool
-is_same_kind Fn Fn = true
-is_same_kind Ret Ret = true
-is_same_kind Caught Caught = true
-is_same_kind Popped Popped = true
-is_same_kind Eq Eq = true
-is_same_kind _ _ = false
-
-abbrev pub is_point : Point → Point → Bool
-is_point p q = (p.node == q.node) && is_same_kind p.kind q.kind
-
-abbrev pub is_label : List Point → Point → Bool
-is_label [] p = false
-is_label (q ∷ qs) p = is_point q p || is_label qs p
 
 abbrev pub times : Point → List Point → ℕ
 times p [] = 0

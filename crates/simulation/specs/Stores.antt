@@ -38,15 +38,21 @@ is_datum ClassRecord = false
 is_datum SpillRecord = false
 is_datum Inside = false
 
--- a datum of the same length
+-- what may give way: a datum to a datum, and a spill record to a spill record
+abbrev pub gives_way : Kind → Kind → Bool
+gives_way Datum Datum = true
+gives_way SpillRecord SpillRecord = true
+gives_way _ _ = false
+
+-- to one of the same length
 abbrev pub may_replace : Block → Block → Bool
-may_replace old new = is_datum old.kind && is_datum new.kind && (old.words == new.words)
+may_replace old new = gives_way old.kind new.kind && (old.words == new.words)
 
 abbrev pub replaced : {X : Type 0} → (X → Block) → List X → ℕ → X → Option X → Option (List X)
 replaced view store a x None = None
 replaced view store a x (Some old) = cond (may_replace (view old) (view x)) (Some (set store a x)) None
 
--- A datum alone gives way, and only to a datum of its length. Else there is no step.
+-- A datum or a spill record alone gives way, and only to one of its kind and length. Else there is no step.
 abbrev pub affected : {X : Type 0} → (X → Block) → List X → Effect X → Option (List X)
 affected view store (Append xs) = Some (store ++ xs)
 affected view store (Put a x) = replaced view store a x (slice_get store a)
@@ -98,3 +104,15 @@ makes c xs = Some (record { next = c; told = []; effects = Append xs ∷ [] })
 
 abbrev pub puts : {C X : Type 0} → C → ℕ → X → Option (Act C X)
 puts c a x = Some (record { next = c; told = []; effects = Put a x ∷ [] })
+
+-- ---- The same over other items and controls
+
+abbrev pub effect_over : {X Y : Type 0} → (X → Y) → Effect X → Effect Y
+effect_over f (Append xs) = Append (map f xs)
+effect_over f (Put a x) = Put a (f x)
+
+abbrev pub act_over : {C D X Y : Type 0} → (C → D) → (X → Y) → Act C X → Act D Y
+act_over g f a = record { next = g a.next; told = a.told; effects = map (effect_over f) a.effects }
+
+abbrev pub configuration_over : {C D X Y : Type 0} → (C → D) → (X → Y) → Configuration C X → Configuration D Y
+configuration_over g f s = record { control = g s.control; out = s.out; store = map f s.store }

@@ -2,7 +2,8 @@
 use Rattle.std.specs.Prelude.{◌≡◌, ◌≢◌, ℕ, ◌+◌, ◌*◌, ◌≤◌, List, [], ◌∷◌, Option, Some, None, slice_get, true}
 use Rattle.smlc_base.specs.declared.point.Point.{Point}
 use Rattle.simulation.specs.Blocks.{Kind, Closure, Frame, Datum, ClassRecord, SpillRecord, Inside, Block, IsAmong, IsPrefix, points_of, StandsAt, Reach}
-use Rattle.simulation.specs.Runs.{Run, is_label, seen}
+use Rattle.simulation.specs.Runs.{Run, seen}
+use Rattle.smlc_base.specs.Points.{is_label}
 use Rattle.simulation.specs.Keeps.{AllNamed, IsNthPass}
 
 -- no element stands twice

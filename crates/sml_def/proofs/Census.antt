@@ -14,7 +14,7 @@ use Rattle.sml_tree.specs.Points.{point, spots}
 use Rattle.simulation.specs.Blocks.{IsAmong, points_of, StandsAt, Reach, Datum}
 use Rattle.simulation.specs.Blocks as sim
 use Rattle.simulation.specs.Machines.{state_at}
-use Rattle.simulation.specs.Runs.{is_point, is_label}
+use Rattle.smlc_base.specs.Points.{is_point, is_label}
 use Rattle.simulation.specs.Stores.{machine_of, is_datum}
 use Rattle.simulation.specs.Words.{IsDistinct, weight, words_at, kind_words, block_words}
 use Rattle.simulation.proofs.Heaps.{stands_map}

@@ -36,7 +36,7 @@ grown_more n [] = omega arith
 grown_more n (Append xs ∷ es) = omega (arith, grown_more (n + length xs) es)
 grown_more n (Put a x ∷ es) = grown_more n es
 
-none_affected : (es : List (Effect Block)) → all_affected view None es ≡ None
+pub none_affected : (es : List (Effect Block)) → all_affected view None es ≡ None
 none_affected [] = refl
 none_affected (e ∷ es) = none_affected es
 
@@ -90,3 +90,14 @@ pub effects_map : (P Q : Block → Type 0) → ((b : Block) → P b → Q b) →
 effects_map P Q f [] h = tt
 effects_map P Q f (Append xs ∷ es) h = (all_map P Q f xs h.0, effects_map P Q f es h.1)
 effects_map P Q f (Put a x ∷ es) h = (f x h.0, effects_map P Q f es h.1)
+
+-- the state after an act has what its effects make
+pub act_makes : (s t : State) (a : Act Focus Block) → acted view s.out s.store (Some a) ≡ Some t → all_affected view (Some s.store) a.effects ≡ Some t.store
+act_makes s t a e = go (all_affected view (Some s.store) a.effects) refl e
+  where
+    go : (o : Option (List Block)) → all_affected view (Some s.store) a.effects ≡ o → configured a.next (wrote s.out a.told) o ≡ Some t → all_affected view (Some s.store) a.effects ≡ Some t.store
+    go None f e = absurd cc
+    go (Some ys) f e =
+        let made : State = record { control = a.next; out = wrote s.out a.told; store = ys } in
+        let same : made ≡ t = cc in
+        f ∙ ap (λ (u : State). Some u.store) same

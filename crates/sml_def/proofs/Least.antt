@@ -141,7 +141,7 @@ distinct_of lo n [] h = tt
 distinct_of lo n (x ∷ xs) h =
     ((λ g. let r = among_between (suc x) n xs x h.2 g in absurd (omega (arith, r.0))), distinct_of (suc x) n xs h.2)
 
-get_below : {A : Type 0} (xs : List A) (a : ℕ) → a < length xs → (x : A) × (slice_get xs a ≡ Some x)
+pub get_below : {A : Type 0} (xs : List A) (a : ℕ) → a < length xs → (x : A) × (slice_get xs a ≡ Some x)
 get_below [] a h = absurd (omega arith)
 get_below (x ∷ xs) zero h = (x, refl)
 get_below (x ∷ xs) (suc a) h = get_below xs a (omega arith)

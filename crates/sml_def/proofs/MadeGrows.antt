@@ -1,14 +1,10 @@
 -- What a run has made is never less afterwards.
-use Rattle.std.proofs.Common.{◌≡◌, ℕ, zero, suc, ◌+◌, ◌≤◌, List, [], ◌∷◌, Some, None, refl, sym, ap, subst, ◌∙◌, arith}
-use Rattle.std.specs.Prelude.{slice_get, sum_by}
-use Rattle.smlc_base.specs.declared.point.Point.{Point}
-use Rattle.smlc_base.specs.declared.point.Site.{Site}
-use Rattle.sml_tree.specs.declared.bare.Bare.{Bare}
+use Rattle.std.proofs.Common.{◌≡◌, ℕ, suc, ◌≤◌, List, [], ◌∷◌, refl, sym, ap, subst, ◌∙◌, arith}
 use Rattle.simulation.specs.Blocks.{Block, Kind, Grows}
 use Rattle.simulation.specs.Words.{weight}
 use Rattle.sml_def.specs.Run.{run}
 use Rattle.sml_def.specs.Sites.{sites}
-use Rattle.sml_def.specs.Made.{made, made_in, made_words}
+use Rattle.sml_def.specs.Made.{made_in, made_words}
 use Rattle.sml_def.specs.Laws.{MadeOnlyGrows}
 use Rattle.sml_def.proofs.Sums.{sum_weight}
 use Rattle.sml_def.proofs.Grows.{runs_only_grow}

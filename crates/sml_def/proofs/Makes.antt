@@ -7,10 +7,10 @@ use Rattle.sml_tree.proofs.Programs.{handled, caught, local_exception, lists, pa
 use Rattle.sml_def.specs.Run.{points}
 use Rattle.sml_def.specs.Made.{made}
 
-abbrev is_odd : ℕ → Bool
+abbrev pub is_odd : ℕ → Bool
 is_odd n = nat_eq (n % 2) 1
 
-abbrev odd : List Point → List Point
+abbrev pub odd : List Point → List Point
 odd ps = filter (λ p. is_odd p.node) ps
 
 abbrev three : Bare → ℕ → ℕ × ℕ × ℕ

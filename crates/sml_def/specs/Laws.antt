@@ -1,9 +1,11 @@
 -- Laws of the machine.
-use Rattle.std.specs.Prelude.{◌≡◌, ◌≤◌, ℕ, List, Some}
+use Rattle.std.specs.Prelude.{◌≡◌, ◌≤◌, ℕ, Bool, List, Some}
 use Rattle.smlc_base.specs.declared.point.Point.{Point}
 use Rattle.smlc_base.specs.declared.point.Site.{Site}
 use Rattle.sml_tree.specs.declared.bare.Bare.{Bare}
 use Rattle.simulation.specs.Blocks.{Block, IsAmong, IsPrefix, Grows, StandsAt, points_of}
+use Rattle.simulation.specs.Keeps.{IsTidy}
+use Rattle.simulation.specs.Runs.{times}
 use Rattle.sml_tree.specs.IsBare.{IsBare}
 use Rattle.sml_tree.specs.Order.{AscendFrom}
 use Rattle.sml_def.specs.Run.{points, run}
@@ -21,6 +23,14 @@ RunsOnlyGrow = (p : Bare) (input : List ℕ) (m n : ℕ) → m ≤ n → OnlyGro
 -- the points of a program stand in ascending order
 abbrev pub PointsAscend : Type 0
 PointsAscend = (p : Bare) → IsBare p → AscendFrom 0 (points p)
+
+-- so each stands once
+abbrev pub PointsStandOnce : Type 0
+PointsStandOnce = (p : Bare) → IsBare p → (q : Point) → times q (points p) ≤ 1
+
+-- The records of each run are in order, as the machine makes no class record and no spill record.
+abbrev pub SourceIsTidy : Type 0
+SourceIsTidy = (full : Bool) (p : Bare) (input : List ℕ) → IsTidy full (run p input)
 
 -- q is the point of one of the program's sites
 abbrev pub HasSite : Bare → Point → Type 0

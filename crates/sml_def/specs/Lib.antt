@@ -12,3 +12,6 @@ pub mod Census
 pub mod Laws
 pub mod Closed
 pub mod Cut
+pub mod Apart
+pub mod Frames
+pub mod Factor

@@ -8,8 +8,7 @@ use Rattle.sml_tree.specs.declared.bare.Con.{Con}
 use Rattle.sml_tree.specs.declared.bare.Con.TheVariants as con
 use Rattle.sml_tree.specs.declared.bare.Field.{Field}
 use Rattle.sml_tree.specs.declared.bare.Rule.{Rule}
-use Rattle.sml_tree.specs.declared.bare.LibraryExn.{LibraryExn}
-use Rattle.sml_tree.specs.declared.bare.LibraryExn.TheVariants as exn
+use Rattle.smlc_base.specs.Exceptions.{exn_number}
 use Rattle.sml_tree.specs.BareParts.{from_parts}
 use Rattle.sml_def.specs.Maybe.{◌>>=◌, when, or_else}
 use Rattle.sml_def.specs.State.{Value, Number, Letter, Nothing, Tag, Constant, Maker, RefMaker, Library, At, Env, Block, Tuple, Applied, Text, Cell, Packet, look}
@@ -45,20 +44,6 @@ con_value env (con.Data t n takes) = Some (cond takes (Maker n) (Tag n))
 con_value env con.Ref = Some RefMaker
 con_value env (con.Exn x takes) = look env x.0
 con_value env (con.Library e) = Some (Library e)
-
--- the number of a library exception
-abbrev pub exn_number : LibraryExn → ℕ
-exn_number exn.MatchExn = 0
-exn_number exn.BindExn = 1
-exn_number exn.DivExn = 2
-exn_number exn.OverflowExn = 3
-exn_number exn.ChrExn = 4
-exn_number exn.SubscriptExn = 5
-exn_number exn.SizeExn = 6
-exn_number exn.EmptyExn = 7
-exn_number exn.OptionExn = 8
-exn_number exn.DomainExn = 9
-exn_number exn.FailExn = 10
 
 -- whether two exception names are one
 abbrev pub same_exn : Value → Value → Bool

@@ -2,7 +2,7 @@
 use Rattle.std.specs.Prelude.{ℕ, ℤ, Bool, List, [], ◌∷◌, Option, Some, None, nat_eq, cond, filter_map}
 use Rattle.std.specs.Option.{option_map}
 use Rattle.smlc_base.specs.declared.primitive.Primitive.{Primitive}
-use Rattle.sml_tree.specs.declared.bare.LibraryExn.{LibraryExn}
+use Rattle.smlc_base.specs.declared.exception.LibraryExn.{LibraryExn}
 use Rattle.sml_tree.specs.declared.bare.Field.{Field}
 use Rattle.sml_tree.specs.declared.bare.Rule.{Rule}
 use Rattle.sml_tree.specs.declared.bare.Binding.{Binding}

@@ -1,5 +1,5 @@
 -- One step of the source machine.
-use Rattle.std.specs.Prelude.{ℕ, zero, suc, Bool, List, [], ◌∷◌, ◌++◌, Option, Some, None, length, map, slice_get, zip, codes}
+use Rattle.std.specs.Prelude.{ℕ, zero, suc, Bool, List, [], ◌∷◌, ◌++◌, Option, Some, None, length, map, slice_get, zip}
 use Rattle.sml_tree.specs.declared.bare.Bare.{Bare}
 use Rattle.sml_tree.specs.declared.bare.Node.{Node}
 use Rattle.sml_tree.specs.declared.bare.Node.TheVariants as node
@@ -7,29 +7,16 @@ use Rattle.sml_tree.specs.declared.bare.Field.{Field}
 use Rattle.sml_tree.specs.declared.bare.Rule.{Rule}
 use Rattle.sml_tree.specs.declared.bare.Binding.{Binding}
 use Rattle.sml_tree.specs.declared.bare.RecBinding.{RecBinding}
-use Rattle.sml_tree.specs.declared.bare.LibraryExn.{LibraryExn}
-use Rattle.sml_tree.specs.declared.bare.LibraryExn.TheVariants as exn
+use Rattle.smlc_base.specs.Exceptions.{exn_text}
+use Rattle.smlc_base.specs.declared.exception.LibraryExn.TheVariants as exn
 use Rattle.sml_tree.specs.BareParts.{from_parts}
 use Rattle.sml_tree.specs.Free.{free, binds, free_match, free_fields, free_rest}
 use Rattle.sml_def.specs.Maybe.{◌>>=◌, or_else}
 use Rattle.sml_def.specs.State.{Value, Number, Letter, Nothing, Constant, Builtin, Maker, RefMaker, Library, At, Env, Address, Awaits, FunctionPart, ArgumentPart, FieldPart, Subject, RightSide, RaisePart, Guarded, Block, Tuple, Applied, Cell, ExnName, Packet, Closure, Frame, Pending, Normal, Uncaught, Control, Eval, Ret, Apply, Raise, Eq, End, look, cut, truth}
 use Rattle.sml_def.specs.Memory.{Memory, Next, going, making, awaiting, making_all}
 use Rattle.sml_def.specs.Match.{con_value, first_rule, fits, block_of, packet_block}
-use Rattle.sml_def.specs.Builtin.{raising, builtin, compare_values, by_verdict}
-
--- the spelling of an exception of the library
-abbrev pub exn_text : LibraryExn → List ℕ
-exn_text exn.MatchExn = codes "Match"
-exn_text exn.BindExn = codes "Bind"
-exn_text exn.DivExn = codes "Div"
-exn_text exn.OverflowExn = codes "Overflow"
-exn_text exn.ChrExn = codes "Chr"
-exn_text exn.SubscriptExn = codes "Subscript"
-exn_text exn.SizeExn = codes "Size"
-exn_text exn.EmptyExn = codes "Empty"
-exn_text exn.OptionExn = codes "Option"
-exn_text exn.DomainExn = codes "Domain"
-exn_text exn.FailExn = codes "Fail"
+use Rattle.prim_meaning.specs.Meaning.{turn}
+use Rattle.sml_def.specs.Builtin.{raising, see, builtin, by_verdict}
 
 -- n numbers from i on
 abbrev pub count_up : ℕ → ℕ → List ℕ
@@ -172,7 +159,7 @@ module _ (p : Bare) where
   apply m (Library e) v k = making m (Packet (Library e) v) (λ a. Ret (At a) k)
   apply m (Maker n) v k = making m (Applied n v) (λ a. Ret (At a) k)
   apply m RefMaker v k = making m (Cell v) (λ a. Ret (At a) k)
-  apply m (Builtin f) v k = builtin p m k f v
+  apply m (Builtin f) v k = builtin p.texts m k f v
   apply m _ v k = None
 
   -- ---- Raise
@@ -204,7 +191,7 @@ module _ (p : Bare) where
   -- ---- Eq
 
   abbrev pub compare : Memory → Option Block → Bool → Option Address → Next
-  compare m (Some (Pending v w next)) t k = by_verdict m (compare_values p m.store v w) next t k
+  compare m (Some (Pending v w next)) t k = by_verdict m (turn (see p.texts m.store) v w) next t k
   compare m _ t k = None
 
   -- ---- The step

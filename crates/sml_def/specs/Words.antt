@@ -4,7 +4,7 @@ use Rattle.smlc_base.specs.declared.point.Point.{Point}
 use Rattle.sml_tree.specs.declared.bare.Bare.{Bare}
 use Rattle.sml_tree.specs.Sets.{has, union, union_over}
 use Rattle.simulation.specs.Blocks.{Block, points_of, Reach}
-use Rattle.simulation.specs.Runs.{is_label}
+use Rattle.smlc_base.specs.Points.{is_label}
 use Rattle.simulation.specs.Stores.{is_datum}
 use Rattle.simulation.specs.Words.{weight, words_at, HasWords}
 use Rattle.sml_def.specs.Run.{run}

@@ -11,14 +11,11 @@ use Rattle.sml_tree.specs.Width.{is_user}
 use Rattle.sml_expansion.specs.Terms.{Term, place_at, trees}
 use Rattle.sml_expansion.specs.Starts.{starts_of}
 use Rattle.sml_expansion.specs.Sources.{Source, IsAt}
-use Rattle.sml_expansion.specs.Programs.{tops, last_place, no_place}
-use Rattle.sml_expansion.specs.Scopes.{Scope, within}
-use Rattle.sml_expansion.specs.Expressions.{decs}
-use Rattle.sml_expansion.specs.declared.made.Made.{Made}
+use Rattle.sml_expansion.specs.Programs.{no_place, end_of}
 use Rattle.sml_expansion.specs.Whole.{first_user_place}
 use Rattle.sml_expansion.proofs.TreeLemmas.{AreTrees, no_trees, more_trees, roots_behind, roots_are_trees}
 use Rattle.sml_expansion.proofs.KindLemmas.{forest_parts}
-use Rattle.sml_derive.specs.Tops.{AreAt, none_at, more_at, last_at}
+use Rattle.sml_derive.specs.Tops.{AreAt, none_at, more_at}
 
 -- the roots that are found are those behind all nodes
 one_found : (b : Bool) (r : Option (List ℕ)) (rs decs : List ℕ) → (r ≡ Some decs → rs ≡ decs) → cond b r None ≡ Some decs → rs ≡ decs
@@ -29,28 +26,31 @@ found : (i : ℕ) (s : List ℕ) (nodes : List TreeNode) (decs : List ℕ) → s
 found i s [] decs e = cc
 found i s (n ∷ nodes) decs e = one_found (nat_le (parts_of n) (length s)) _ _ decs (found (suc i) (i ∷ drop (parts_of n) s) nodes decs) e
 
+-- a tree with these names
+abbrev pub source_with : List (List ℕ) → Tree → Source
+source_with names tree = record { names = names; nodes = tree.nodes; places = tree.places }
+
 abbrev pub source_of : Tree → Source
-source_of tree = record { names = tree.names; nodes = tree.nodes; places = tree.places }
+source_of tree = source_with tree.names tree
 
 are_at : (s : Source) (is : List ℕ) (ts : List Term) → AreTrees s.nodes s.places (starts_of s.nodes) is ts → AreAt s is ts
 are_at s _ _ no_trees = none_at
 are_at s _ _ (more_trees i t is ts x a) = more_at i t is ts x (are_at s is ts a)
 
-pub roots_stand : (tree : Tree) → AreAt (source_of tree) tree.decs (trees tree.nodes tree.places)
-roots_stand tree =
+pub roots_with : (names : List (List ℕ)) (tree : Tree) → AreAt (source_with names tree) tree.decs (trees tree.nodes tree.places)
+roots_with names tree =
     let parts = forest_parts 0 0 [] tree.nodes tree.decs refl tree.forest in
-    are_at (source_of tree) tree.decs (trees tree.nodes tree.places)
+    are_at (source_with names tree) tree.decs (trees tree.nodes tree.places)
     (subst (λ is. AreTrees tree.nodes tree.places (starts_of tree.nodes) is (trees tree.nodes tree.places)) (found 0 [] tree.nodes tree.decs tree.forest)
     (roots_are_trees tree.nodes tree.places (sym tree.placed) parts))
 
+pub roots_stand : (tree : Tree) → AreAt (source_of tree) tree.decs (trees tree.nodes tree.places)
+roots_stand tree = roots_with tree.names tree
+
 -- ---- Their places
 
-pub last_top : (p : Place) (s : Scope) (terms : List Term) (m : Made) → last_place p (tops s terms m).0 ≡ last_at p terms
-last_top p s [] m = refl
-last_top p s (t ∷ terms) m = let x = decs s t m in last_top (place_at t) (within s x.0.env) terms x.1
-
 -- the number at the end is that of the last of them
-pub last_is : (s : Source) (is : List ℕ) (i : ℕ) (ts : List Term) (p q : Place) → AreAt s is ts → slice_get is (length is - 1) ≡ Some i → ((t : Term) → IsAt s i t → q ≡ place_at t) → q ≡ last_at p ts
+pub last_is : (s : Source) (is : List ℕ) (i : ℕ) (ts : List Term) (p q : Place) → AreAt s is ts → slice_get is (length is - 1) ≡ Some i → ((t : Term) → IsAt s i t → q ≡ place_at t) → q ≡ end_of p ts
 last_is s _ i _ p q none_at e h = cc
 last_is s _ i _ p q (more_at j t _ _ k none_at) e h = let one : j ≡ i = cc in h t (subst (λ n. IsAt s n t) one k)
 last_is s _ i _ p q (more_at j t _ _ k (more_at o u is ts l a)) e h =

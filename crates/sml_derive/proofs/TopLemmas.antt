@@ -11,14 +11,15 @@ use Rattle.sml_expansion.specs.declared.meaning.Meaning.TheVariants.{Variable, C
 use Rattle.sml_expansion.specs.declared.scope.Ident.{Ident}
 use Rattle.sml_expansion.specs.Terms.{Term, leaf, one, two, three, four, node_of, place_at}
 use Rattle.sml_expansion.specs.Sources.{Source, IsAt}
-use Rattle.sml_expansion.specs.Scopes.{Scope, ident, meaning_of, within}
+use Rattle.sml_expansion.specs.Scopes.{Scope, ident, meaning_of, within, with_long_identifiers}
 use Rattle.sml_expansion.specs.Forests.{Forest, none, tree, count, ◌&◌}
 use Rattle.sml_expansion.specs.Bindings.{ExDecs, exceptions, renaming_of, is_exception}
 use Rattle.sml_expansion.specs.Expressions.{decs, shown_each}
+use Rattle.sml_expansion.specs.Programs as whole
 use Rattle.sml_expansion.specs.Programs.{tops}
 use Rattle.sml_derive.specs.declared.top_trees.TopTree.{TopTree}
 use Rattle.sml_derive.specs.Steps.{scope, led, hidden, Declares}
-use Rattle.sml_derive.specs.Tops.{so_many, Shows, trees_of, all_trees, all_leads, IsTop, AreTops, AreAt, none_at, more_at, AreKnown}
+use Rattle.sml_derive.specs.Tops.{so_many, Shows, trees_of, all_trees, all_leads, IsTop, IsLibraryTop, AreTops, AreAll, StandBefore, AreAt, none_at, more_at, AreKnown}
 use Rattle.sml_derive.proofs.Counting.{count_beside}
 use Rattle.sml_derive.proofs.Schemas.{Is, same, is}
 use Rattle.sml_derive.proofs.Declaring.{declares_behind, declares_inside}
@@ -179,11 +180,55 @@ one_top_less s terms before now next was some more at left rest e l h = step l.o
     step : (others : List Term) → AreAt s (at ∷ rest) others → ((w : Walk) (all : List TopTree) → AreTops s others now w some all → AreTops s terms before w was all) → LeftTops s terms before next was more rest
     step _ (more_at _ t _ ts k others) goes = record { others = ts; stand = others; goes = λ w all g. goes w all (tops_more s t ts now next w some more all (h t k) g) }
 
-pub all_tops : (s : Source) (terms : List Term) (before now : Walk) (was some : List TopTree) (left : List ℕ) → left ≡ [] → LeftTops s terms before now was some left → AreTops s terms before now was some
-all_tops s terms before now was some left e l = step l.others (subst (λ k. AreAt s k l.others) e l.stand) l.goes
+pub no_tops_left : (s : Source) (terms : List Term) (before now : Walk) (was some : List TopTree) (left : List ℕ) → left ≡ [] → LeftTops s terms before now was some left → AreTops s terms before now was some
+no_tops_left s terms before now was some left e l = step l.others (subst (λ k. AreAt s k l.others) e l.stand) l.goes
   where
     step : (others : List Term) → AreAt s [] others → ((w : Walk) (all : List TopTree) → AreTops s others now w some all → AreTops s terms before w was all) → AreTops s terms before now was some
     step _ none_at goes = goes now some (record { made = refl; marks = sym (append-nil now.marks); trees = sym (append-nil some) })
+
+-- ---- The declarations of the library
+
+pub library_top_is : (s : Source) (t : Term) (w0 w1 : Walk) (n : ℕ) (was now : List TopTree) (shown : List Bool) (p : Place) → Declares (decs (scope s w0) t) w0 w1 n → shown ≡ [] ++ so_many n false → p ≡ place_at t → now ≡ was ++ trees_of true p shown → IsLibraryTop s t w0 w1 was now
+library_top_is s t w0 w1 n was now shown p h e q k = record {
+  walk = h.walk;
+  trees = k ∙ ap (λ z. was ++ trees_of true z shown) q ∙ ap (λ l. was ++ trees_of true (place_at t) l) (e ∙ ap (λ m. so_many m false) h.written ∙ sym (shown_is false (decs (scope s w0) t w0.made).0.forest));
+}
+
+library_more : (s : Source) (t : Term) (library terms : List Term) (w0 w1 w2 : Walk) (was mid now : List TopTree) → IsLibraryTop s t w0 w1 was mid → AreAll s library terms w1 w2 mid now → AreAll s (t ∷ library) terms w0 w2 was now
+library_more s t library terms w0 w1 w2 was mid now h g = step w1 (is h.walk) g.made g.marks g.trees
+  where
+    step : (w1 : Walk) → Is (led (decs (scope s w0) t) w0) w1 → w2.made ≡ (whole.all_tops (scope s w1) library terms w1.made).1 → w2.marks ≡ w1.marks ++ all_leads (whole.all_tops (scope s w1) library terms w1.made).0 → now ≡ mid ++ all_trees (whole.all_tops (scope s w1) library terms w1.made).0
+        → AreAll s (t ∷ library) terms w0 w2 was now
+    step _ same a b c =
+        let x = decs (scope s w0) t w0.made in
+        let r = whole.all_tops (within (scope s w0) x.0.env) library terms x.1 in
+        record {
+          made = a;
+          marks = b ∙ append_assoc w0.marks _ (all_leads r.0);
+          trees = c ∙ ap (λ l. l ++ all_trees r.0) h.trees ∙ append_assoc was (trees_of true (place_at t) (shown_each false x.0.forest)) (all_trees r.0);
+        }
+
+-- what is left of them
+pub record LeftLibrary (s : Source) (library : List Term) (before now : Walk) (was some : List TopTree) (left : List ℕ) : Type 0 where
+  pub others : List Term
+  pub stand : AreAt s left others
+  pub goes : (terms : List Term) (w : Walk) (all : List TopTree) → AreAll s others terms now w some all → AreAll s library terms before w was all
+
+pub begun_library : (s : Source) (library : List Term) (w : Walk) (was : List TopTree) (left : List ℕ) → AreAt s left library → LeftLibrary s library w w was was left
+begun_library s library w was left k = record { others = library; stand = k; goes = λ terms v all h. h }
+
+pub one_library_less : (s : Source) (library : List Term) (before now next : Walk) (was some more : List TopTree) (at : ℕ) (left rest : List ℕ) → left ≡ at ∷ rest → LeftLibrary s library before now was some left
+    → ((t : Term) → IsAt s at t → IsLibraryTop s t now next some more) → LeftLibrary s library before next was more rest
+one_library_less s library before now next was some more at left rest e l h = step l.others (subst (λ k. AreAt s k l.others) e l.stand) l.goes
+  where
+    step : (others : List Term) → AreAt s (at ∷ rest) others → ((terms : List Term) (w : Walk) (all : List TopTree) → AreAll s others terms now w some all → AreAll s library terms before w was all) → LeftLibrary s library before next was more rest
+    step _ (more_at _ t _ ts k others) goes = record { others = ts; stand = others; goes = λ terms w all g. goes terms w all (library_more s t ts terms now next w some more all (h t k) g) }
+
+pub no_library_left : (s : Source) (library : List Term) (before now : Walk) (was some : List TopTree) (left : List ℕ) → left ≡ [] → LeftLibrary s library before now was some left → StandBefore s library before now was some
+no_library_left s library before now was some left e l = step l.others (subst (λ k. AreAt s k l.others) e l.stand) l.goes
+  where
+    step : (others : List Term) → AreAt s [] others → ((terms : List Term) (w : Walk) (all : List TopTree) → AreAll s others terms now w some all → AreAll s library terms before w was all) → StandBefore s library before now was some
+    step _ none_at goes = goes
 
 -- for each tree of a declaration it is known whether it is shown
 known : (s : Scope) (t : Term) (m : Made) → length (decs s t m).0.shown ≡ count (decs s t m).0.forest
@@ -217,3 +262,8 @@ known s (four n p x y z v) m = refl
 pub all_known : (s : Scope) (terms : List Term) (m : Made) → AreKnown (tops s terms m).0
 all_known s [] m = tt
 all_known s (t ∷ terms) m = let x = decs s t m in (known s t m, all_known (within s x.0.env) terms x.1)
+
+-- and likewise with the library before them
+pub whole_known : (s : Scope) (library terms : List Term) (m : Made) → AreKnown (whole.all_tops s library terms m).0
+whole_known s [] terms m = all_known (with_long_identifiers s) terms m
+whole_known s (t ∷ library) terms m = let x = decs s t m in (ap length (shown_is false x.0.forest) ∙ so_long (count x.0.forest) false, whole_known (within s x.0.env) library terms x.1)

@@ -1,7 +1,6 @@
 -- Programs: what was expanded is the expansion, and what comes of it.
 use Rattle.std.proofs.Common.{◌≡◌, ℕ, suc, ◌<◌, ◌≤◌, ◌^◌, Bool, true, false, List, [], ◌++◌, length, cond, refl, sym, ap, subst, ◌∙◌, Some, None, arith}
 use Rattle.std.specs.Prelude.{nat_lt}
-use Rattle.std.specs.List.{AllByRecursion}
 use Rattle.std.proofs.lemmas.Bool.Decides.{nat_tests}
 use Rattle.smlc_base.specs.declared.place.Place.{Place}
 use Rattle.smlc_base.specs.declared.refusal.Refusal.{Refusal}
@@ -17,19 +16,18 @@ use Rattle.sml_expansion.specs.Sources.{Source}
 use Rattle.sml_expansion.specs.Forests.{Forest, none, grown, numbered, places}
 use Rattle.sml_expansion.specs.Marks.{marks}
 use Rattle.sml_expansion.specs.Makings.{nothing_made}
-use Rattle.sml_expansion.specs.Programs.{Top, Expansion, tops, program, lets, all_shown, last_place, no_place}
+use Rattle.sml_expansion.specs.Programs.{Top, Expansion, all_tops, program, lets, all_shown, end_of, no_place}
 use Rattle.sml_expansion.specs.Whole.{IsExpansion, IsRefusal, breaks_rule, too_wide, expansion_of_tree, bare_of, broken, width_limit, first_user_place}
-use Rattle.expansion_laws.specs.Laws.{CharFits}
-use Rattle.expansion_laws.proofs.Standing.{tree_shaped}
-use Rattle.expansion_laws.proofs.Clauses.{nodes_numbered, is_expansion}
+use Rattle.expansion_laws.specs.Laws.{AreReady}
+use Rattle.expansion_laws.proofs.Clauses.{both_shaped, nodes_numbered, is_expansion}
 use Rattle.sml_derive.specs.declared.program.Expanded.{Expanded}
 use Rattle.sml_derive.specs.declared.top_trees.TopTree.{TopTree}
 use Rattle.sml_derive.specs.Steps.{scope, marked}
-use Rattle.sml_derive.specs.Tops.{all_trees, all_leads, ends, AreTops, AreKnown, IsExpanded, last_at}
+use Rattle.sml_derive.specs.Tops.{all_trees, all_leads, ends, AreTops, AreAll, StandBefore, AreKnown, IsExpanded, named_long}
 use Rattle.sml_derive.proofs.Schemas.{Is, same, is}
-use Rattle.sml_derive.proofs.TopLemmas.{all_known}
+use Rattle.sml_derive.proofs.TopLemmas.{whole_known}
 use Rattle.sml_derive.proofs.Links.{program_spells}
-use Rattle.sml_derive.proofs.Roots.{source_of, last_top}
+use Rattle.sml_derive.proofs.Roots.{source_of, source_with}
 
 -- a walk before the program
 abbrev start : Walk
@@ -41,40 +39,44 @@ starts w a b c =
     ∙ ap (λ d. record { made = nothing_made; bindings = d; marks = w.marks }) b
     ∙ ap (λ l. record { made = nothing_made; bindings = record { values = []; types = []; tyvars = [] }; marks = l }) c
 
-pub expanded_is : (tree : Tree) (s : Source) (e : Expanded) (w0 w1 w2 : Walk) (kept : List TopTree) (end : Place)
-    → s ≡ source_of tree → w0.made ≡ nothing_made → w0.bindings ≡ record { values = []; types = []; tyvars = [] } → w0.marks ≡ []
-    → AreTops s (trees tree.nodes tree.places) w0 w1 [] kept → end ≡ last_at no_place (trees tree.nodes tree.places)
-    → w2 ≡ marked (marks (grown bare.Finish end none) ++ ends kept) w1
-    → ((f : Forest) → w2.marks ≡ marks f → e.nodes ≡ numbered 0 f) → ((f : Forest) → w2.marks ≡ marks f → e.places ≡ places f)
+pub expanded_is : (library tree : Tree) (s0 s : Source) (e : Expanded) (w0 w1 w2 w3 w4 : Walk) (stood kept : List TopTree) (end : Place)
+    → s0 ≡ source_with tree.names library → s ≡ source_of tree → w0.made ≡ nothing_made → w0.bindings ≡ record { values = []; types = []; tyvars = [] } → w0.marks ≡ []
+    → StandBefore s0 (trees library.nodes library.places) w0 w1 [] stood → w2 ≡ named_long tree.names w1
+    → AreTops s (trees tree.nodes tree.places) w2 w3 stood kept → end ≡ end_of no_place (trees tree.nodes tree.places)
+    → w4 ≡ marked (marks (grown bare.Finish end none) ++ ends kept) w3
+    → ((f : Forest) → w4.marks ≡ marks f → e.nodes ≡ numbered 0 f) → ((f : Forest) → w4.marks ≡ marks f → e.places ≡ places f)
     → ((end : Place) (tops : List Top) → AreKnown tops → e.nodes ≡ numbered 0 (program end tops) → kept ≡ all_trees tops → (e.decs ≡ lets 0 tops) × (e.shown ≡ all_shown 0 tops))
-    → e.made ≡ w2.made → IsExpanded e (expansion_of_tree tree)
-expanded_is tree s e w0 w1 w2 kept end h a b c t l f n p o m = step s w0 w2 (is h) (is (starts w0 a b c)) t (is f) n p m
+    → e.made ≡ w4.made → IsExpanded e (expansion_of_tree library tree)
+expanded_is library tree s0 s e w0 w1 w2 w3 w4 stood kept end g h a b c before long t l f n p o m = step s0 s w0 w2 w4 (is g) (is h) (is (starts w0 a b c)) before (is long) t (is f) n p m
   where
-    step : (s : Source) (w0 w2 : Walk) → Is (source_of tree) s → Is start w0 → AreTops s (trees tree.nodes tree.places) w0 w1 [] kept → Is (marked (marks (grown bare.Finish end none) ++ ends kept) w1) w2
-        → ((f : Forest) → w2.marks ≡ marks f → e.nodes ≡ numbered 0 f) → ((f : Forest) → w2.marks ≡ marks f → e.places ≡ places f) → e.made ≡ w2.made → IsExpanded e (expansion_of_tree tree)
-    step _ _ _ same same t same n p m =
+    step : (s0 s : Source) (w0 w2 w4 : Walk) → Is (source_with tree.names library) s0 → Is (source_of tree) s → Is start w0 → StandBefore s0 (trees library.nodes library.places) w0 w1 [] stood → Is (named_long tree.names w1) w2
+        → AreTops s (trees tree.nodes tree.places) w2 w3 stood kept → Is (marked (marks (grown bare.Finish end none) ++ ends kept) w3) w4
+        → ((f : Forest) → w4.marks ≡ marks f → e.nodes ≡ numbered 0 f) → ((f : Forest) → w4.marks ≡ marks f → e.places ≡ places f) → e.made ≡ w4.made → IsExpanded e (expansion_of_tree library tree)
+    step _ _ _ _ _ same same same before same own same n p m =
         let terms = trees tree.nodes tree.places in
+        let firsts = trees library.nodes library.places in
         let sc = scope (source_of tree) start in
-        let r = tops sc terms nothing_made in
-        let known : AreKnown r.0 = all_known sc terms nothing_made in
-        let last : end ≡ last_place no_place r.0 = l ∙ sym (last_top no_place sc terms nothing_made) in
-        let spelled : w1.marks ++ (marks (grown bare.Finish end none) ++ ends kept) ≡ marks (program (last_place no_place r.0) r.0) =
+        let r = all_tops sc firsts terms nothing_made in
+        let t : AreAll (source_with tree.names library) firsts terms start w3 [] kept = before terms w3 kept (record { made = own.made; marks = own.marks; trees = own.trees }) in
+        let known : AreKnown r.0 = whole_known sc firsts terms nothing_made in
+        let last = end_of no_place terms in
+        let spelled : w3.marks ++ (marks (grown bare.Finish end none) ++ ends kept) ≡ marks (program last r.0) =
         ap (λ k. k ++ (marks (grown bare.Finish end none) ++ ends kept)) t.marks
         ∙ ap (λ k. all_leads r.0 ++ (marks (grown bare.Finish end none) ++ ends k)) t.trees
-        ∙ ap (λ q. all_leads r.0 ++ (marks (grown bare.Finish q none) ++ ends (all_trees r.0))) last
-        ∙ sym (program_spells (last_place no_place r.0) r.0 known) in
-        let nodes = n (program (last_place no_place r.0) r.0) spelled in
-        let found = o (last_place no_place r.0) r.0 known nodes t.trees in
-        record { nodes = nodes; places = p (program (last_place no_place r.0) r.0) spelled; decs = found.0; shown = found.1; made = m ∙ t.made }
+        ∙ ap (λ q. all_leads r.0 ++ (marks (grown bare.Finish q none) ++ ends (all_trees r.0))) l
+        ∙ sym (program_spells last r.0 known) in
+        let nodes = n (program last r.0) spelled in
+        let found = o last r.0 known nodes t.trees in
+        record { nodes = nodes; places = p (program last r.0) spelled; decs = found.0; shown = found.1; made = m ∙ t.made }
 
-pub is_broken : (tree : Tree) (e : Expanded) (r : Refusal) → IsExpanded e (expansion_of_tree tree) → e.made.refusal ≡ Some r → IsRefusal tree r
-is_broken tree e r x h = breaks_rule r (ap (λ m. m.refusal) (sym x.made) ∙ h)
+pub is_broken : (library tree : Tree) (e : Expanded) (r : Refusal) → IsExpanded e (expansion_of_tree library tree) → e.made.refusal ≡ Some r → IsRefusal library tree r
+is_broken library tree e r x h = breaks_rule r (ap (λ m. m.refusal) (sym x.made) ∙ h)
 
-pub is_kept : (tree : Tree) (e : Expanded) → IsExpanded e (expansion_of_tree tree) → e.made.refusal ≡ None → broken tree ≡ None
-is_kept tree e x h = ap (λ m. m.refusal) (sym x.made) ∙ h
+pub is_kept : (library tree : Tree) (e : Expanded) → IsExpanded e (expansion_of_tree library tree) → e.made.refusal ≡ None → broken library tree ≡ None
+is_kept library tree e x h = ap (λ m. m.refusal) (sym x.made) ∙ h
 
-pub is_numbered : (tree : Tree) (e : Expanded) → AllByRecursion CharFits tree.nodes → IsExpanded e (expansion_of_tree tree) → e.made.refusal ≡ None → IsNumbered e.nodes
-is_numbered tree e chars x h = subst IsNumbered (sym x.nodes) (nodes_numbered tree (tree_shaped tree chars) (is_kept tree e x h))
+pub is_numbered : (library tree : Tree) (e : Expanded) → AreReady library tree → IsExpanded e (expansion_of_tree library tree) → e.made.refusal ≡ None → IsNumbered e.nodes
+is_numbered library tree e ready x h = subst IsNumbered (sym x.nodes) (nodes_numbered library tree (both_shaped library tree ready) (is_kept library tree e x h))
 
 most : (limit w x : ℕ) (b : Bool) → nat_lt limit w ≡ b → Some x ≡ cond b None (Some w) → (x ≡ w) × (w ≤ limit)
 most limit w x true e h = cc
@@ -87,11 +89,11 @@ above : (limit w : ℕ) (b : Bool) → nat_lt limit w ≡ b → None ≡ cond b 
 above limit w true e h = grind (arith, nat_tests)
 above limit w false e h = cc
 
-pub is_wide : (tree : Tree) (e : Expanded) (limit : ℕ) (p : Place) → IsExpanded e (expansion_of_tree tree) → e.made.refusal ≡ None → limit ≡ width_limit → None ≡ at_most limit (width e.nodes e.places) → p ≡ first_user_place (trees tree.nodes tree.places) → IsRefusal tree (refusal.TooWide p)
-is_wide tree e limit p x h l w q =
-    let same_width : width e.nodes e.places ≡ (bare_of tree).width = ap (λ n. width n e.places) x.nodes ∙ ap (λ n. width (expansion_of_tree tree).nodes n) x.places in
+pub is_wide : (library tree : Tree) (e : Expanded) (limit : ℕ) (p : Place) → IsExpanded e (expansion_of_tree library tree) → e.made.refusal ≡ None → limit ≡ width_limit → None ≡ at_most limit (width e.nodes e.places) → p ≡ first_user_place (trees tree.nodes tree.places) → IsRefusal library tree (refusal.TooWide p)
+is_wide library tree e limit p x h l w q =
+    let same_width : width e.nodes e.places ≡ (bare_of library tree).width = ap (λ n. width n e.places) x.nodes ∙ ap (λ n. width (expansion_of_tree library tree).nodes n) x.places in
     let more : limit < width e.nodes e.places = above limit (width e.nodes e.places) (nat_lt limit (width e.nodes e.places)) refl w in
-    subst (λ k. IsRefusal tree (refusal.TooWide k)) (sym q) (too_wide (is_kept tree e x h) (subst (λ k. k < (bare_of tree).width) l (subst (λ k. limit < k) same_width more)))
+    subst (λ k. IsRefusal library tree (refusal.TooWide k)) (sym q) (too_wide (is_kept library tree e x h) (subst (λ k. k < (bare_of library tree).width) l (subst (λ k. limit < k) same_width more)))
 
 -- the bare tree of an expansion
 abbrev bare_with : Expansion → List (List ℕ) → Bare
@@ -107,6 +109,6 @@ same_bare e y texts all w x t s =
     let names : e.made.names ≡ y.made.names = ap (λ m. m.names) f in
     cc
 
-pub completed_is : (tree : Tree) (e : Expanded) (texts : List (List ℕ)) (w : ℕ) → AllByRecursion CharFits tree.nodes → broken tree ≡ None → IsExpanded e (expansion_of_tree tree) → w ≡ width e.nodes e.places → w ≤ width_limit → texts ≡ tree.texts → suc (length e.nodes) < 2 ^ 32
-    → IsExpansion tree (record { nodes = e.nodes; places = e.places; decs = e.decs; shown = e.shown; types = e.made.types; tyvars = e.made.tyvars; names = e.made.names; texts = texts; width = w })
-completed_is tree e texts w chars kept x s narrow t few = is_expansion tree _ chars few kept narrow (same_bare e (expansion_of_tree tree) texts tree.texts w x t s)
+pub completed_is : (library tree : Tree) (e : Expanded) (texts : List (List ℕ)) (w : ℕ) → AreReady library tree → broken library tree ≡ None → IsExpanded e (expansion_of_tree library tree) → w ≡ width e.nodes e.places → w ≤ width_limit → texts ≡ tree.texts → suc (length e.nodes) < 2 ^ 32
+    → IsExpansion library tree (record { nodes = e.nodes; places = e.places; decs = e.decs; shown = e.shown; types = e.made.types; tyvars = e.made.tyvars; names = e.made.names; texts = texts; width = w })
+completed_is library tree e texts w ready kept x s narrow t few = is_expansion library tree _ ready few kept narrow (same_bare e (expansion_of_tree library tree) texts tree.texts w x t s)

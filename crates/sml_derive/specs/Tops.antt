@@ -9,7 +9,9 @@ use Rattle.sml_expansion.specs.Sources.{Source, IsAt}
 use Rattle.sml_expansion.specs.Forests.{count}
 use Rattle.sml_expansion.specs.Makings.{Makes}
 use Rattle.sml_expansion.specs.Bindings.{Decs}
-use Rattle.sml_expansion.specs.Expressions.{decs}
+use Rattle.sml_expansion.specs.Expressions.{decs, shown_each}
+use Rattle.sml_expansion.specs.Scopes.{renamed}
+use Rattle.sml_prelude.specs.Long.{long_identifiers}
 use Rattle.sml_expansion.specs.Programs as whole
 use Rattle.sml_expansion.specs.Programs.{Top, Expansion}
 use Rattle.sml_derive.specs.declared.top_trees.TopTree.{TopTree}
@@ -57,6 +59,25 @@ pub record AreTops (s : Source) (terms : List Term) (before after : Walk) (was n
   pub marks : after.marks ≡ before.marks ++ all_leads (whole.tops (scope s before) terms before.made).0
   pub trees : now ≡ was ++ all_trees (whole.tops (scope s before) terms before.made).0
 
+-- one declaration of the library
+pub record IsLibraryTop (s : Source) (t : Term) (before after : Walk) (was now : List TopTree) : Type 0 where
+  pub walk : after ≡ led (decs (scope s before) t) before
+  pub trees : now ≡ was ++ trees_of true (place_at t) (shown_each false (decs (scope s before) t before.made).0.forest)
+
+-- the declarations of the library from these on, and those of a program behind them
+pub record AreAll (s : Source) (library terms : List Term) (before after : Walk) (was now : List TopTree) : Type 0 where
+  pub made : after.made ≡ (whole.all_tops (scope s before) library terms before.made).1
+  pub marks : after.marks ≡ before.marks ++ all_leads (whole.all_tops (scope s before) library terms before.made).0
+  pub trees : now ≡ was ++ all_trees (whole.all_tops (scope s before) library terms before.made).0
+
+-- the declarations of the library are expanded: whatever stands behind them, stands behind them in the whole
+abbrev pub StandBefore : Source → List Term → Walk → Walk → List TopTree → List TopTree → Type 0
+StandBefore s library before after was now = (terms : List Term) (last : Walk) (all : List TopTree) → AreAll s [] terms after last now all → AreAll s library terms before last was all
+
+-- the long identifiers come into scope
+abbrev pub named_long : List (List ℕ) → Walk → Walk
+named_long names w = record { made = w.made; bindings = record { values = renamed names long_identifiers w.bindings.values; types = w.bindings.types; tyvars = w.bindings.tyvars }; marks = w.marks }
+
 -- these numbers are the roots of these trees
 pub data AreAt (s : Source) : List ℕ → List Term → Type 0 where
   none_at : AreAt s [] []
@@ -73,8 +94,3 @@ pub record IsExpanded (e : Expanded) (x : Expansion) : Type 0 where
   pub decs : e.decs ≡ x.decs
   pub shown : e.shown ≡ x.shown
   pub made : e.made ≡ x.made
-
--- the place of the last of them
-abbrev pub last_at : Place → List Term → Place
-last_at p [] = p
-last_at p (t ∷ terms) = last_at (place_at t) terms

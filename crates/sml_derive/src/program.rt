@@ -1,27 +1,27 @@
 //! Programs.
 
 ghost use Rattle.std.specs.Prelude.{◌≡◌, ◌++◌, ◌≤◌, ◌<◌, ◌^◌, suc, None, IfOk, OnOk, IfErr, List, [], length};
-ghost use Rattle.std.specs.List.{AllByRecursion};
 ghost use Rattle.smlc_base.specs.declared.place.Place.{Place};
 ghost use Rattle.sml_tree.specs.Width as measure;
 ghost use Rattle.sml_expansion.specs.Terms.{Term};
 ghost use Rattle.sml_expansion.specs.Forests.{grown, none};
 ghost use Rattle.sml_expansion.specs.Marks.{marks};
 ghost use Rattle.sml_tree.specs.declared.bare.Node.TheVariants as bare;
-ghost use Rattle.sml_expansion.specs.Programs.{no_place};
-ghost use Rattle.sml_expansion.specs.Whole.{IsExpansion, Fails, expansion_of_tree, bare_of, broken, width_limit, first_user_place};
-ghost use Rattle.expansion_laws.specs.Laws.{CharFits};
+ghost use Rattle.sml_expansion.specs.Programs.{no_place, end_of};
+ghost use Rattle.sml_expansion.specs.Whole.{Continues, IsExpansion, Fails, expansion_of_tree, bare_of, broken, width_limit, first_user_place};
+ghost use Rattle.expansion_laws.specs.Laws.{AreReady};
 ghost use Rattle.sml_derive.specs.Steps.{marked};
-ghost use Rattle.sml_derive.specs.Tops.{ends, AreAt, IsExpanded, last_at};
+ghost use Rattle.sml_derive.specs.Tops.{ends, AreAt, IsExpanded, named_long};
 
 use crate::outline::{Outline, outline_of};
-use crate::top_trees::{TopTree, tops};
+use crate::top_trees::{TopTree, library_tops, tops};
 use expansion_laws::bytes::chars_fit;
+use sml_expansion::long_identifiers::bind_long_identifiers;
 use sml_expansion::{Made, Parsed, Walk, link};
 use sml_tree::bare::Node;
 use sml_tree::width::width_within;
 use sml_tree::{Bare, Tree};
-use smlc_base::{Bytes, CompileError, NoMemory, Place, Refusal, Row};
+use smlc_base::{Bytes, CompileError, Names, NoMemory, Place, Refusal, Row};
 use std::alloc::Global;
 
 /// The greatest width of a program.
@@ -37,15 +37,17 @@ pub(crate) struct Expanded {
     pub made: Made,
 }
 
-/// The bare tree of a parse tree, or why there is none: the least of the rules that are broken, or else that the tree is too wide, with the place of the user's first declaration.
-pub fn bare(alloc: Global, tree: &Tree) -> Result<Bare, CompileError>
-    ensures ok { IfOk result (λ bare. IsExpansion tree.now bare) }
-    ensures err { IfErr result (λ e. Fails tree.now e) }
+/// The bare tree of the library's parse tree and a program's, or why there is none: the least of the rules that are broken, or else that the program is too wide, with the place of the user's first declaration.
+pub fn bare(alloc: Global, library: &Tree, tree: &Tree) -> Result<Bare, CompileError>
+    requires { Continues library.now tree.now }
+    ensures ok { IfOk result (λ bare. IsExpansion library.now tree.now bare) }
+    ensures err { IfErr result (λ e. Fails library.now tree.now e) }
 {
-    let expanded = expand(alloc, tree)?;
+    let expanded = expand(alloc, library, tree)?;
     if let Some(refusal) = expanded.made.refusal {
         return Err(CompileError::Refused(refusal));
     }
+    chars_fit(library.nodes.items());
     chars_fit(tree.nodes.items());
     let width = width_within(
         alloc,
@@ -54,9 +56,9 @@ pub fn bare(alloc: Global, tree: &Tree) -> Result<Bare, CompileError>
         WIDTH_LIMIT,
     )?;
     match width {
-        Some(width) => Ok(completed(alloc, tree, expanded, width)?),
+        Some(width) => Ok(completed(alloc, library, tree, expanded, width)?),
         None => {
-            let parsed = Parsed::new(alloc, tree)?;
+            let parsed = Parsed::new(alloc, tree, &tree.names)?;
             let place = first_user_place(&parsed, tree.decs.items());
             Err(CompileError::Refused(Refusal::TooWide(place)))
         }
@@ -64,14 +66,21 @@ pub fn bare(alloc: Global, tree: &Tree) -> Result<Bare, CompileError>
 }
 
 /// The bare tree of an expansion that breaks no rule and isn't too wide.
-fn completed(alloc: Global, tree: &Tree, expanded: Expanded, width: u64) -> Result<Bare, NoMemory>
-    requires chars { AllByRecursion CharFits tree.now.nodes }
-    requires kept { broken tree.now ≡ None }
-    requires same { IsExpanded expanded (expansion_of_tree tree.now) }
+fn completed(
+    alloc: Global,
+    library: &Tree,
+    tree: &Tree,
+    expanded: Expanded,
+    width: u64,
+) -> Result<Bare, NoMemory>
+    requires ready { AreReady library.now tree.now }
+    requires kept { broken library.now tree.now ≡ None }
+    requires same { IsExpanded expanded (expansion_of_tree library.now tree.now) }
     requires width { width ≡ measure.width expanded.nodes expanded.places }
     requires narrow { width ≤ width_limit }
-    ensures { IfOk result (λ bare. IsExpansion tree.now bare) }
+    ensures { IfOk result (λ bare. IsExpansion library.now tree.now bare) }
 {
+    let _ = &library;
     numbers_fit(expanded.nodes.len())?;
     let texts = copied(alloc, tree.texts.items())?;
     let Expanded {
@@ -122,13 +131,16 @@ fn copied(alloc: Global, texts: &[Bytes]) -> Result<Row<Bytes>, NoMemory>
     Ok(copy)
 }
 
-/// The expansion of a program.
-fn expand(alloc: Global, tree: &Tree) -> Result<Expanded, NoMemory>
-    ensures { IfOk result (λ expanded. IsExpanded expanded (expansion_of_tree tree.now)) }
+/// The expansion of the library's declarations, and then of a program's.
+fn expand(alloc: Global, library: &Tree, tree: &Tree) -> Result<Expanded, NoMemory>
+    ensures { IfOk result (λ expanded. IsExpanded expanded (expansion_of_tree library.now tree.now)) }
 {
-    let parsed = Parsed::new(alloc, tree)?;
+    let stands = Parsed::new(alloc, library, &tree.names)?;
+    let parsed = Parsed::new(alloc, tree, &tree.names)?;
     let mut walk = Walk::new(alloc);
-    let trees = tops(alloc, &parsed, &mut walk, tree.decs.items())?;
+    let mut trees = library_tops(alloc, &stands, &mut walk, library.decs.items())?;
+    long_identifiers(&tree.names, &mut walk)?;
+    tops(alloc, &parsed, &mut walk, &mut trees, tree.decs.items())?;
     let end = last_place(&parsed, tree.decs.items());
     finish(&mut walk, end, &trees)?;
     let Walk { made, marks, .. } = walk;
@@ -141,6 +153,13 @@ fn expand(alloc: Global, tree: &Tree) -> Result<Expanded, NoMemory>
         shown,
         made,
     })
+}
+
+/// The long identifiers come into scope.
+fn long_identifiers(names: &Names, walk: &mut Walk) -> Result<(), NoMemory>
+    ensures { OnOk result (walk.new ≡ named_long names.now walk.old) }
+{
+    bind_long_identifiers(names, &mut walk.bindings.values)
 }
 
 /// The end of the program, and the ends of the `Let` nodes around it, from the innermost out.
@@ -163,9 +182,9 @@ fn close_all(walk: &mut Walk, trees: &[TopTree]) -> Result<(), NoMemory>
     Ok(())
 }
 
-/// The place of the last declaration.
+/// The place of the user's last declaration.
 fn last_place(parsed: &Parsed, decs: &[u32]) -> Place
-    ensures { (terms : List Term) → AreAt parsed.now decs.now terms → result ≡ last_at no_place terms }
+    ensures { (terms : List Term) → AreAt parsed.now decs.now terms → result ≡ end_of no_place terms }
 {
     match decs.last() {
         Some(at) => parsed.place(*at),

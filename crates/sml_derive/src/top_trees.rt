@@ -5,7 +5,7 @@ ghost use Rattle.sml_expansion.specs.Terms.{Term};
 ghost use Rattle.sml_expansion.specs.Sources.{IsAt};
 ghost use Rattle.sml_expansion.specs.Expressions.{decs};
 ghost use Rattle.sml_derive.specs.Steps.{scope};
-ghost use Rattle.sml_derive.specs.Tops.{so_many, Shows, trees_of, IsTop, AreTops, AreAt};
+ghost use Rattle.sml_derive.specs.Tops.{so_many, Shows, trees_of, IsTop, IsLibraryTop, AreTops, StandBefore, AreAt};
 
 use crate::declarations::decs;
 use crate::parts::hide;
@@ -22,20 +22,53 @@ pub(crate) struct TopTree {
     pub shown: bool,
 }
 
-/// The declarations of a program.
+/// The declarations of a program, behind those of the library.
 pub(crate) fn tops(
+    alloc: Global,
+    parsed: &Parsed,
+    walk: &mut Walk,
+    trees: &mut Vec<TopTree>,
+    decs: &[u32],
+) -> Result<(), NoMemory>
+    ensures { OnOk result ((terms : List Term) → AreAt parsed.now decs.now terms → AreTops parsed.now terms walk.old walk.new trees.old.items trees.new.items) }
+{
+    for at in decs {
+        top(alloc, parsed, walk, trees, *at)?;
+    }
+    Ok(())
+}
+
+/// The declarations of the library.
+pub(crate) fn library_tops(
     alloc: Global,
     parsed: &Parsed,
     walk: &mut Walk,
     decs: &[u32],
 ) -> Result<Vec<TopTree>, NoMemory>
-    ensures { IfOk result (λ trees. (terms : List Term) → AreAt parsed.now decs.now terms → AreTops parsed.now terms walk.old walk.new [] trees.items) }
+    ensures { IfOk result (λ trees. (terms : List Term) → AreAt parsed.now decs.now terms → StandBefore parsed.now terms walk.old walk.new [] trees.items) }
 {
     let mut trees = Vec::new(alloc);
     for at in decs {
-        top(alloc, parsed, walk, &mut trees, *at)?;
+        library_top(alloc, parsed, walk, &mut trees, *at)?;
     }
     Ok(trees)
+}
+
+/// A declaration of the library: none of its trees is shown.
+fn library_top(
+    alloc: Global,
+    parsed: &Parsed,
+    walk: &mut Walk,
+    trees: &mut Vec<TopTree>,
+    at: u32,
+) -> Result<(), NoMemory>
+    ensures { OnOk result ((t : Term) → IsAt parsed.now at t → IsLibraryTop parsed.now t walk.old walk.new trees.old.items trees.new.items) }
+{
+    let place = parsed.place(at);
+    let count = decs(parsed, walk, at)?;
+    let mut shown = Vec::new(alloc);
+    note(&mut shown, count, false)?;
+    keep(trees, place, &shown)
 }
 
 /// A declaration of the top level.

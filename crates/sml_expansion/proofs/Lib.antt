@@ -3,6 +3,7 @@ pub mod KindLemmas
 pub mod MakingLemmas
 pub mod MarkLemmas
 mod NameLemmas
+mod NumberLemmas
 pub mod OnceLemmas
 pub mod OrderLemmas
 mod PartLemmas

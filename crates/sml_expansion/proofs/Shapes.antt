@@ -1,12 +1,13 @@
 -- A tree by the node at its root, and where its parts are.
 use Rattle.std.proofs.Common.{◌≡◌, ◌≢◌, ◌<◌, ◌≤◌, ℕ, zero, suc, ◌-◌, Bool, true, false, cond, List, [], ◌∷◌, Option, Some, None, get_or, slice_get, refl, sym, ap, ◌∙◌, subst, arith, rules}
-use Rattle.std.specs.Prelude.{nat_le}
+use Rattle.std.specs.Prelude.{nat_le, ◌&&◌}
 use Rattle.std.proofs.lemmas.Option.{get_or_from_slice_get}
 use Rattle.smlc_base.specs.declared.place.Place.{Place}
 use Rattle.sml_tree.specs.declared.tree_node.TreeNode.{TreeNode}
 use Rattle.sml_tree.specs.declared.tree_node.TreeNode.TheVariants as node
 use Rattle.sml_tree.specs.Parts.{parts_of}
 use Rattle.sml_tree.specs.Tree.{roots}
+use Rattle.sml_tree.specs.Width.{is_user}
 use Rattle.sml_expansion.specs.Terms.{Term, leaf, one, two, three, four, node_of, place_at}
 use Rattle.sml_expansion.specs.Starts.{starts_of, is_leaf, is_one, is_two, is_three, is_four}
 use Rattle.sml_expansion.specs.Scopes.{key_of, is_long, ident}
@@ -124,23 +125,23 @@ four_parts s _ n p a b c d i j k l e f g h (is_four w x y z _ _ _ _ _ _ q ha hb 
     (subst (λ m. IsAt s m a) (sym at_w) ha, subst (λ m. IsAt s m b) (sym at_x) hb, subst (λ m. IsAt s m c) (sym at_y) hc, subst (λ m. IsAt s m d) (sym at_z) hd)
 
 -- The identifier at a tree whose node is no `op`.
-plain_one : (names : List (List ℕ)) (n : TreeNode) (p : Place) (a : Term) → n ≢ node.Op → ident names (one n p a) ≡ record { key = key_of names n; long = is_long n; place = p }
+plain_one : (names : List (List ℕ)) (n : TreeNode) (p : Place) (a : Term) → n ≢ node.Op → ident names (one n p a) ≡ record { key = key_of names n; long = is_long n && is_user p; place = p }
 plain_one names node.Op p a h = absurd (h refl)
 plain_one names _ p a h = refl
 
-plain : (names : List (List ℕ)) (t : Term) → node_of t ≢ node.Op → ident names t ≡ record { key = key_of names (node_of t); long = is_long (node_of t); place = place_at t }
+plain : (names : List (List ℕ)) (t : Term) → node_of t ≢ node.Op → ident names t ≡ record { key = key_of names (node_of t); long = is_long (node_of t) && is_user (place_at t); place = place_at t }
 plain names (leaf n p) h = refl
 plain names (one n p a) h = plain_one names n p a h
 plain names (two n p a b) h = refl
 plain names (three n p a b c) h = refl
 plain names (four n p a b c d) h = refl
 
-pub ident_is : (s : Source) (i : ℕ) (t : Term) (n : TreeNode) (k : ℕ) (l : Bool) (p : Place) → IsAt s i t → n ≡ node_at s i → n ≢ node.Op → k ≡ key_of s.names n → l ≡ is_long n → p ≡ place_at t
+pub ident_is : (s : Source) (i : ℕ) (t : Term) (n : TreeNode) (k : ℕ) (l : Bool) (p : Place) → IsAt s i t → n ≡ node_at s i → n ≢ node.Op → k ≡ key_of s.names n → l ≡ (is_long n && is_user p) → p ≡ place_at t
     → ident s.names t ≡ record { key = k; long = l; place = p }
 ident_is s i t n k l p h e other kn ln pn =
     let same : node_of t ≡ n = sym (node_is s i t h) ∙ sym e in
     let not_op : node_of t ≢ node.Op = subst (λ m. m ≢ node.Op) (sym same) other in
-    let at : ident s.names t ≡ record { key = key_of s.names (node_of t); long = is_long (node_of t); place = place_at t } = plain s.names t not_op in
+    let at : ident s.names t ≡ record { key = key_of s.names (node_of t); long = is_long (node_of t) && is_user (place_at t); place = place_at t } = plain s.names t not_op in
     let kt : k ≡ key_of s.names (node_of t) = kn ∙ ap (key_of s.names) (sym same) in
-    let lt : l ≡ is_long (node_of t) = ln ∙ ap is_long (sym same) in
+    let lt : l ≡ (is_long (node_of t) && is_user (place_at t)) = ln ∙ ap (λ m. is_long m && is_user p) (sym same) ∙ ap (λ q. is_long (node_of t) && is_user q) pn in
     cc

@@ -6,10 +6,10 @@ use Rattle.sml_tree.specs.declared.bare.Node.TheVariants as bare
 use Rattle.sml_expansion.specs.declared.made.Made.{Made}
 use Rattle.sml_expansion.specs.Terms.{Term, place_at}
 use Rattle.sml_expansion.specs.Forests.{Forest, none, tree, grown, size, numbered, places}
-use Rattle.sml_expansion.specs.Scopes.{Scope, nothing, within}
+use Rattle.sml_expansion.specs.Scopes.{Scope, nothing, within, with_long_identifiers}
 use Rattle.sml_expansion.specs.Makings.{nothing_made, Makes, gives, ◌>>=◌}
 use Rattle.sml_expansion.specs.Bare.{nest}
-use Rattle.sml_expansion.specs.Expressions.{decs}
+use Rattle.sml_expansion.specs.Expressions.{decs, shown_each}
 
 -- a top-level declaration: the place of its first token, its trees, and for each whether its variables are shown
 pub record Top : Type 0 where
@@ -24,10 +24,18 @@ tops s (t ∷ terms) = do
   rest ← tops (within s x.env) terms
   gives (record { place = place_at t; forest = x.forest; shown = x.shown } ∷ rest)
 
--- the place of the end: that of the last declaration
-abbrev pub last_place : Place → List Top → Place
-last_place p [] = p
-last_place p (t ∷ tops) = last_place t.place tops
+-- the declarations of the library, which aren't shown, and then the user's
+abbrev pub all_tops : Scope → List Term → List Term → Makes (List Top)
+all_tops s [] terms = tops (with_long_identifiers s) terms
+all_tops s (t ∷ library) terms = do
+  x ← decs s t
+  rest ← all_tops (within s x.env) library terms
+  gives (record { place = place_at t; forest = x.forest; shown = shown_each false x.forest } ∷ rest)
+
+-- the place of the end: that of the user's last declaration
+abbrev pub end_of : Place → List Term → Place
+end_of p [] = p
+end_of p (t ∷ terms) = end_of (place_at t) terms
 
 -- one nest of `Let` whose innermost part is the end
 abbrev pub program : Place → List Top → Forest
@@ -73,15 +81,15 @@ pub record Expansion : Type 0 where
 abbrev pub no_place : Place
 no_place = record { file = 0; line = 1; col = 1 }
 
-abbrev pub expansion_of : List Top × Made → Expansion
-expansion_of r = record {
-  nodes = numbered 0 (program (last_place no_place r.0) r.0);
-  places = places (program (last_place no_place r.0) r.0);
+abbrev pub expansion_of : Place → List Top × Made → Expansion
+expansion_of end r = record {
+  nodes = numbered 0 (program end r.0);
+  places = places (program end r.0);
   decs = lets 0 r.0;
   shown = all_shown 0 r.0;
   made = r.1;
 }
 
--- the expansion of the declarations of a program with these names
-abbrev pub expansion : List (List ℕ) → List Term → Expansion
-expansion names terms = expansion_of (tops (record { names = names; env = nothing; tyvars = [] }) terms nothing_made)
+-- the expansion of the library's declarations and then of a program's, with these names
+abbrev pub expansion : List (List ℕ) → List Term → List Term → Expansion
+expansion names library terms = expansion_of (end_of no_place terms) (all_tops (record { names = names; env = nothing; tyvars = [] }) library terms nothing_made)

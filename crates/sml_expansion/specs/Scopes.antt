@@ -1,15 +1,16 @@
 -- What identifiers stand for. An identifier is named by the number of its text among the names of the program, of which no two are equal.
-use Rattle.std.specs.Prelude.{ℕ, suc, Bool, true, false, if◌then◌else◌, List, [], ◌∷◌, ◌++◌, Option, Some, None, bytes_eq, slice_get, codes, unwrap_or}
-use Rattle.std.specs.List.{list_any}
+use Rattle.std.specs.Prelude.{ℕ, suc, Bool, true, false, ◌&&◌, if◌then◌else◌, List, [], ◌∷◌, ◌++◌, Option, Some, None, bytes_eq, slice_get, codes, unwrap_or}
+use Rattle.std.specs.List.{list_any, position_from}
 use Rattle.sml_tree.specs.declared.tree_node.TreeNode.{TreeNode}
 use Rattle.sml_tree.specs.declared.tree_node.TreeNode.TheVariants as node
+use Rattle.sml_tree.specs.Width.{is_user}
 use Rattle.sml_prelude.specs.declared.values.Value.{Value}
 use Rattle.sml_prelude.specs.declared.values.Value.TheVariants as base
 use Rattle.sml_prelude.specs.declared.types.BaseType.{BaseType}
 use Rattle.sml_prelude.specs.declared.types.BaseType.TheVariants as kind
 use Rattle.sml_prelude.specs.Values.{value_of}
 use Rattle.sml_prelude.specs.Types.{type_of}
-use Rattle.sml_prelude.specs.Long.{short_of}
+use Rattle.sml_prelude.specs.Long.{short_of, long_identifiers}
 use Rattle.sml_expansion.specs.declared.meaning.Meaning.{Meaning}
 use Rattle.sml_expansion.specs.declared.meaning.Meaning.TheVariants.{Constructor, Builtin}
 use Rattle.sml_expansion.specs.declared.meaning.TypeMeaning.{TypeMeaning}
@@ -100,11 +101,36 @@ is_long (node.LongVid x) = true
 is_long (node.LongTyCon x) = true
 is_long _ = false
 
--- the identifier at a node, perhaps behind an `op`, with the place of its token
+-- the identifier at a node, perhaps behind an `op`, with the place of its token. A long one of the user's files is never bound; in the library it is an identifier as any other.
 abbrev pub ident : List (List ℕ) → Term → Ident
 ident names (term.one node.Op p a) = ident names a
-ident names t = record { key = key_of names (node_of t); long = is_long (node_of t); place = place_at t }
+ident names t = record { key = key_of names (node_of t); long = is_long (node_of t) && is_user (place_at t); place = place_at t }
 
 -- `true false nil :: ref` and `=`, which aren't bound again
 abbrev pub is_fixed : List ℕ → Bool
 is_fixed x = list_any (bytes_eq x) (codes "true" ∷ codes "false" ∷ codes "nil" ∷ codes "::" ∷ codes "ref" ∷ codes "=" ∷ [])
+
+-- ---- Long identifiers
+
+-- the number of a text among the names, if it is one of them
+abbrev pub number_of : List (List ℕ) → List ℕ → Option ℕ
+number_of names text = position_from (λ t. bytes_eq t text) 0 names
+
+-- what is bound to a number, if there is a number
+abbrev pub latest_at : List (ℕ × Meaning) → Option ℕ → Option Meaning
+latest_at values (Some x) = latest values x
+latest_at values None = None
+
+-- a number with what it stands for, if there are both
+abbrev pub also : Option ℕ → Option Meaning → List (ℕ × Meaning) → List (ℕ × Meaning)
+also (Some x) (Some m) values = (x, m) ∷ values
+also x m values = values
+
+-- for each row in order, its first text stands for what its second one is bound to
+abbrev pub renamed : List (List ℕ) → List (List ℕ × List ℕ) → List (ℕ × Meaning) → List (ℕ × Meaning)
+renamed names [] values = values
+renamed names (r ∷ rows) values = renamed names rows (also (number_of names r.0) (latest_at values (number_of names r.1)) values)
+
+-- Behind the library's declarations each long identifier stands for what its short one is bound to, and still does where the user binds the short one again.
+abbrev pub with_long_identifiers : Scope → Scope
+with_long_identifiers s = record s { env = record { values = renamed s.names long_identifiers s.env.values; types = s.env.types } }

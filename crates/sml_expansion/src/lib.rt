@@ -2,11 +2,12 @@
 //!
 //! It stands on `sml_prelude`, `sml_tree`, `smlc_base` and `indexmap`. Its main contract: `link` answers the numbered nodes of the trees that its marks spell.
 //!
-//! `specs/` has the definition of the whole expansion (`Programs`, `expansion`). `parsed` reads the parse tree by number, `scoped` binds numbers and takes bindings back, `made` keeps what is made beside nodes with the least refusal, `walk` is the state of it all, `mark` makes numbered nodes of a list of marks, `labels` orders labels and makes fields, and `once` finds names and labels that stand twice.
+//! `specs/` has the definition of the whole expansion (`Programs`, `expansion`). `parsed` reads the parse tree by number, `scoped` binds numbers and takes bindings back, `made` keeps what is made beside nodes with the least refusal, `walk` is the state of it all, `mark` makes numbered nodes of a list of marks, `labels` orders labels and makes fields, and `once` finds names and labels that stand twice, and `long_identifiers` binds the library's long names.
 #![tactic(auto)]
 
 pub mod base;
 pub mod labels;
+pub mod long_identifiers;
 pub mod made;
 pub mod mark;
 pub mod meaning;

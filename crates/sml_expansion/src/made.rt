@@ -10,7 +10,7 @@ use smlc_base::{Bytes, NoMemory, Refusal, Row};
 use std::alloc::Global;
 
 /// The spellings of the bindings, the types as they are written, and for each type variable whether it admits equality alone, all by number; the numbers of the next type name and of the next `type` binding; and the least of the rules that are broken.
-#[derive(Debug, Drop)]
+#[derive(Drop)]
 pub struct Made {
     pub names: Row<Bytes>,
     pub types: Row<TypeExp>,

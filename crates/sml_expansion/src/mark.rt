@@ -12,14 +12,14 @@ use smlc_base::{NoMemory, Place, Row};
 use std::alloc::Global;
 
 /// Where a node's parts begin, or the node behind them, which doesn't name them yet.
-#[derive(Debug, Drop)]
+#[derive(Drop)]
 pub enum Mark {
     Open,
     Close(Node, Place),
 }
 
 /// A node whose parts are read, with the roots behind it, the last first.
-#[derive(Debug, Drop)]
+#[derive(Drop)]
 struct Frame {
     node: Node,
     place: Place,
@@ -70,7 +70,7 @@ pub fn link(alloc: Global, spelling: Row<Mark>) -> Result<(Row<Node>, Row<Place>
 }
 
 /// What the marks that were read come to, the last first.
-#[derive(Debug, Drop)]
+#[derive(Drop)]
 struct Linked {
     frames: Vec<Frame>,
     roots: Vec<u32>,

@@ -1,9 +1,10 @@
 //! The parse tree with where its trees begin, and what its names stand for before the program.
 
-ghost use Rattle.std.specs.Prelude.{◌≡◌, ◌<◌, ◌≤◌, ◌-◌, IfOk, get_or};
+ghost use Rattle.std.specs.Prelude.{◌≡◌, ◌&&◌, ◌<◌, ◌≤◌, ◌-◌, IfOk, get_or};
 ghost use Rattle.smlc_base.specs.declared.place.Place.{Place};
 ghost use Rattle.sml_tree.specs.declared.tree_node.TreeNode.{TreeNode};
 ghost use Rattle.sml_tree.specs.Parts.{parts_of};
+ghost use Rattle.sml_tree.specs.Width.{is_user};
 ghost use Rattle.sml_expansion.specs.Terms.{Term, leaf, one, two, three, four, place_at};
 ghost use Rattle.sml_expansion.specs.Sources.{IsAt, node_at};
 ghost use Rattle.sml_expansion.specs.Starts.{starts_of};
@@ -23,6 +24,8 @@ use std::marker::Model;
 #[derive(Drop)]
 pub struct Parsed<'a> {
     tree: &'a Tree,
+    /// The names of the program, which go on where the tree's end.
+    names: &'a Names,
     /// How many nodes stand before the tree of each node.
     starts_at: Vec<u32>,
     /// The number of `=`.
@@ -38,20 +41,21 @@ impl<'a> Model for Parsed<'a> {
     ghost use Rattle.sml_expansion.specs.Starts.{starts_of};
     ghost use Rattle.sml_expansion.specs.Scopes.{equals};
 
-    ghost view = { λ p. record { names = p.tree.now.names; nodes = p.tree.now.nodes; places = p.tree.now.places } };
+    ghost view = { λ p. record { names = p.names.now; nodes = p.tree.now.nodes; places = p.tree.now.places } };
 
-    ghost invariant = { λ p. (p.starts_at.items ≡ starts_of p.tree.now.nodes) × (p.equals_key ≡ equals p.tree.now.names) };
+    ghost invariant = { λ p. (p.starts_at.items ≡ starts_of p.tree.now.nodes) × (p.equals_key ≡ equals p.names.now) };
 }
 
 impl<'a> Parsed<'a> {
-    /// The tree of a program.
-    pub fn new(alloc: Global, tree: &'a Tree) -> Result<Parsed<'a>, NoMemory>
-        ensures { IfOk result (λ parsed. parsed ≡ record { names = tree.now.names; nodes = tree.now.nodes; places = tree.now.places }) }
+    /// A tree, whose names are read in these.
+    pub fn new(alloc: Global, tree: &'a Tree, names: &'a Names) -> Result<Parsed<'a>, NoMemory>
+        ensures { IfOk result (λ parsed. parsed ≡ record { names = names.now; nodes = tree.now.nodes; places = tree.now.places }) }
     {
         Ok(Parsed {
             tree,
+            names,
             starts_at: starts(alloc, tree.nodes.items())?,
-            equals_key: equals(&tree.names)?,
+            equals_key: equals(names)?,
         })
     }
 
@@ -133,11 +137,19 @@ impl<'a> Parsed<'a> {
     pub fn text(&self, key: u32) -> &[u8]
         ensures { result.now ≡ text_of self.now.names key }
     {
-        if (key as usize) < self.tree.names.len() {
-            self.tree.names.text(Name(key))
+        if (key as usize) < self.names.len() {
+            self.names.text(Name(key))
         } else {
             b"="
         }
+    }
+
+    /// The names of the program.
+    pub fn names(&self) -> &Names
+        ensures { result.now ≡ self.now.names }
+    {
+        let _ = &self.tree;
+        self.names
     }
 
     /// The identifier at a node, perhaps behind an `op`.
@@ -149,10 +161,11 @@ impl<'a> Parsed<'a> {
             at = self.one(at);
         }
         let node = self.node(at);
+        let place = self.place(at);
         Ident {
             key: self.key_of(node),
-            long: is_long(node),
-            place: self.place(at),
+            long: is_barred(node, place),
+            place,
         }
     }
 
@@ -190,6 +203,13 @@ impl<'a> Parsed<'a> {
             None => base_type(self.text(key)),
         }
     }
+}
+
+/// Whether an identifier's node is that of a long one in a user's file.
+fn is_barred(node: TreeNode, place: Place) -> bool
+    ensures { result ≡ (is_long node && is_user place) }
+{
+    is_long(node) && place.file != 0
 }
 
 /// Whether an identifier's node is that of a long one.

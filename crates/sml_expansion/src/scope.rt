@@ -7,7 +7,7 @@ use crate::scoped::Scoped;
 use smlc_base::Place;
 use std::alloc::Global;
 
-/// An identifier: the number of its text among the names of the program, whether it is long, and the place of its token, behind an `op`.
+/// An identifier: the number of its text among the names of the program, whether it is a long one of the user's files, and the place of its token, behind an `op`.
 #[derive(Clone, Copy, PartialEq, Eq, Debug)]
 pub struct Ident {
     pub key: u32,

@@ -73,18 +73,18 @@ have_tokens names texts n fs ts (files.AreFiles.none m) = tt
 have_tokens names texts n fs ts (files.AreFiles.file m f gs us vs ls h s r) = ((ls, h), have_tokens names texts (suc m) gs vs r)
 
 -- what a progress through the files has
-pub record IsProgress (fs : List (List ℕ)) (names texts : List (List ℕ)) (ts : List Token) (end : Place) : Type 0 where
-  pub are : AreFiles names texts 1 fs ts
-  pub end_is : end ≡ end_of (record { file = 0; line = 1; col = 1 }) 1 fs
+pub record IsProgress (n : ℕ) (fs : List (List ℕ)) (names texts : List (List ℕ)) (ts : List Token) (end : Place) : Type 0 where
+  pub are : AreFiles names texts n fs ts
+  pub end_is : end ≡ end_of (record { file = 0; line = 1; col = 1 }) n fs
 
-pub no_progress : (names texts : List (List ℕ)) (ts : List Token) → ts ≡ [] → IsProgress [] names texts ts (record { file = 0; line = 1; col = 1 })
-no_progress names texts ts e = record { are = subst (AreFiles names texts 1 []) (sym e) (files.AreFiles.none 1); end_is = refl }
+pub no_progress : (n : ℕ) (names texts : List (List ℕ)) (ts : List Token) → ts ≡ [] → IsProgress n [] names texts ts (record { file = 0; line = 1; col = 1 })
+no_progress n names texts ts e = record { are = subst (AreFiles names texts n []) (sym e) (files.AreFiles.none n); end_is = refl }
 
-pub more_progress : (fs : List (List ℕ)) (names texts names' texts' : List (List ℕ)) (ts us all : List Token) (end : Place) → IsProgress fs names texts ts end → Extends names names' → Extends texts texts' → (f : List ℕ) (m : ℕ) → m ≡ length fs + 1
-    → (ls : List Lexeme) → AreTokens f ls → ShowAll m names' texts' us ls → all ≡ ts ++ us → (next : Place) → next ≡ place_behind m f → IsProgress (fs ++ f ∷ []) names' texts' all next
-more_progress fs names texts names' texts' ts us all end p a b f m e ls h s ai next ne = record {
-  are = subst (AreFiles names' texts' 1 (fs ++ f ∷ [])) (sym ai) (files_push names' texts' 1 fs ts (files_extend names names' texts texts' a b 1 fs ts p.are) m (omega arith) f us ls h s);
-  end_is = ne ∙ sym (end_push (record { file = 0; line = 1; col = 1 }) 1 fs f m (omega arith));
+pub more_progress : (n : ℕ) (fs : List (List ℕ)) (names texts names' texts' : List (List ℕ)) (ts us all : List Token) (end : Place) → IsProgress n fs names texts ts end → Extends names names' → Extends texts texts' → (f : List ℕ) (m : ℕ) → m ≡ length fs + n
+    → (ls : List Lexeme) → AreTokens f ls → ShowAll m names' texts' us ls → all ≡ ts ++ us → (next : Place) → next ≡ place_behind m f → IsProgress n (fs ++ f ∷ []) names' texts' all next
+more_progress n fs names texts names' texts' ts us all end p a b f m e ls h s ai next ne = record {
+  are = subst (AreFiles names' texts' n (fs ++ f ∷ [])) (sym ai) (files_push names' texts' n fs ts (files_extend names names' texts texts' a b n fs ts p.are) m (omega arith) f us ls h s);
+  end_is = ne ∙ sym (end_push (record { file = 0; line = 1; col = 1 }) n fs f m (omega arith));
 }
 
 -- where each file has tokens, nothing is refused
@@ -92,9 +92,9 @@ pick : (before after : List (List ℕ)) (f : List ℕ) → AllByRecursion HasTok
 pick [] after f h = h.0
 pick (g ∷ before) after f h = pick before after f h.1
 
-pub accepted : (fs : List (List ℕ)) → total fs ≤ limit → AllByRecursion HasTokens fs → (r : Refusal) → IsRefusal fs r → ⊥
-accepted fs small all r (files.IsRefusal.too_long before f after e h k) = let t = ap total e ∙ total-append before (f ∷ after) in omega arith
-accepted fs small all r (files.IsRefusal.fault before f after g e h a i) =
+pub accepted : (n : ℕ) (fs : List (List ℕ)) → total fs ≤ limit → AllByRecursion HasTokens fs → (r : Refusal) → IsRefusal n fs r → ⊥
+accepted n fs small all r (files.IsRefusal.too_long before f after e h k) = let t = ap total e ∙ total-append before (f ∷ after) in omega arith
+accepted n fs small all r (files.IsRefusal.fault before f after g e h a i) =
     let t = pick before after f (subst (AllByRecursion HasTokens) e all) in
     tokens_or_faults f t.0 g t.1 i.fails
 
@@ -149,20 +149,20 @@ files_cited names texts n fs ts (files.AreFiles.file m f gs us vs ls h s r) =
     cited-append _ _ us vs (shown_cited m names texts us ls s (all_allowed _ [] f ls h)) (files_cited names texts (suc m) gs vs r)
 
 -- the first file with which the limit is passed
-pub too_long_there : {V : Type 0} (f : V → List ℕ) (xs : List V) (i : ℕ) → i < length xs → total (map f (take i xs)) ≤ limit → limit < total (map f (take (i + 1) xs)) → IsRefusal (map f xs) (refusal.TooLong (record { file = i + 1; line = 1; col = 1 }))
-too_long_there f xs i h a b =
+pub too_long_there : (n : ℕ) {V : Type 0} (f : V → List ℕ) (xs : List V) (i : ℕ) → i < length xs → total (map f (take i xs)) ≤ limit → limit < total (map f (take (i + 1) xs)) → IsRefusal n (map f xs) (refusal.TooLong (record { file = i + n; line = 1; col = 1 }))
+too_long_there n f xs i h a b =
     let x = item_there xs i h in
     let more = total_more f xs i x.0 h x.1 in
     let count : length (map f (take i xs)) ≡ i = length-map (take i xs) f ∙ length-take-le i xs (omega arith) in
-    subst (λ n. IsRefusal (map f xs) (refusal.TooLong (record { file = n + 1; line = 1; col = 1 }))) count
+    subst (λ k. IsRefusal n (map f xs) (refusal.TooLong (record { file = k + n; line = 1; col = 1 }))) count
     (files.IsRefusal.too_long (map f (take i xs)) (f x.0) (map f (drop (i + 1) xs)) (split_files f xs i x.0 h x.1) a (omega (arith, more)))
 
-pub fault_there : {V : Type 0} (f : V → List ℕ) (xs : List V) (i : ℕ) (x : V) → i < length xs → x ≡ get_or xs i x → total (map f xs) ≤ limit → AllByRecursion HasTokens (map f (take i xs)) → (g : Fault) → IsFirstFault (f x) g
-    → IsRefusal (map f xs) (refusal_of g.why (place_behind (i + 1) g.at))
-fault_there f xs i x h e small all g first =
+pub fault_there : (n : ℕ) {V : Type 0} (f : V → List ℕ) (xs : List V) (i : ℕ) (x : V) → i < length xs → x ≡ get_or xs i x → total (map f xs) ≤ limit → AllByRecursion HasTokens (map f (take i xs)) → (g : Fault) → IsFirstFault (f x) g
+    → IsRefusal n (map f xs) (refusal_of g.why (place_behind (i + n) g.at))
+fault_there n f xs i x h e small all g first =
     let count : length (map f (take i xs)) ≡ i = length-map (take i xs) f ∙ length-take-le i xs (omega arith) in
-    subst (λ n. IsRefusal (map f xs) (refusal_of g.why (place_behind (n + 1) g.at))) count
+    subst (λ k. IsRefusal n (map f xs) (refusal_of g.why (place_behind (k + n) g.at))) count
     (files.IsRefusal.fault (map f (take i xs)) (f x) (map f (drop (i + 1) xs)) g (split_files f xs i x h e) small all first)
 
-pub count_there : {V : Type 0} (f : V → List ℕ) (xs : List V) (i : ℕ) → i < length xs → i + 1 ≡ length (map f (take i xs)) + 1
-count_there f xs i h = let count : length (map f (take i xs)) ≡ i = length-map (take i xs) f ∙ length-take-le i xs (omega arith) in omega arith
+pub count_there : (n : ℕ) {V : Type 0} (f : V → List ℕ) (xs : List V) (i : ℕ) → i < length xs → i + n ≡ length (map f (take i xs)) + n
+count_there n f xs i h = let count : length (map f (take i xs)) ≡ i = length-map (take i xs) f ∙ length-take-le i xs (omega arith) in omega arith

@@ -10,6 +10,7 @@ pub mod FilesLemmas
 pub mod FoundLemmas
 pub mod ItemLemmas
 pub mod ItemsFound
+pub mod NameLemmas
 pub mod NumberLemmas
 pub mod PlaceLemmas
 pub mod PlaceSteps

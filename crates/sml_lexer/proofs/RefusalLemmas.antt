@@ -88,20 +88,20 @@ at_item a r x c e h = go a (subst (AllByRecursion HasTokens) e h)
 total_before : (a r : List (List ℕ)) (x : List ℕ) (c : List (List ℕ)) → c ≡ a ++ x ∷ r → total a + length x ≤ total c
 total_before a r x c e = let t = ap total e ∙ total-append a (x ∷ r) in omega arith
 
-pub refusal_one : (fs : List (List ℕ)) (r s : Refusal) → IsRefusal fs r → IsRefusal fs s → r ≡ s
-refusal_one fs r s (files.IsRefusal.too_long a x b e h k) (files.IsRefusal.too_long c y d f i j) = go (splits a b c d x y (sym e ∙ f))
+pub refusal_one : (first : ℕ) (fs : List (List ℕ)) (r s : Refusal) → IsRefusal first fs r → IsRefusal first fs s → r ≡ s
+refusal_one n fs r s (files.IsRefusal.too_long a x b e h k) (files.IsRefusal.too_long c y d f i j) = go (splits a b c d x y (sym e ∙ f))
   where
     go : Splits a x c y → r ≡ s
-    go (same p q) = ap (λ z. refusal.TooLong (record { file = length z + 1; line = 1; col = 1 })) p
+    go (same p q) = ap (λ z. refusal.TooLong (record { file = length z + n; line = 1; col = 1 })) p
     go (before t p) = absurd (let u = total_before a t x c p in omega arith)
     go (behind t p) = absurd (let u = total_before c t y a p in omega arith)
-refusal_one fs r s (files.IsRefusal.too_long a x b e h k) (files.IsRefusal.fault c y d g f i j l) = absurd (let t = total_before a b x fs e in omega arith)
-refusal_one fs r s (files.IsRefusal.fault a x b f e h k l) (files.IsRefusal.too_long c y d i j m) = absurd (let t = total_before c d y fs i in omega arith)
-refusal_one fs r s (files.IsRefusal.fault a x b f e h k l) (files.IsRefusal.fault c y d g i j m n) = go (splits a b c d x y (sym e ∙ i))
+refusal_one n fs r s (files.IsRefusal.too_long a x b e h k) (files.IsRefusal.fault c y d g f i j l) = absurd (let t = total_before a b x fs e in omega arith)
+refusal_one n fs r s (files.IsRefusal.fault a x b f e h k l) (files.IsRefusal.too_long c y d i j m) = absurd (let t = total_before c d y fs i in omega arith)
+refusal_one n fs r s (files.IsRefusal.fault a x b f e h k l) (files.IsRefusal.fault c y d g i j m o) = go (splits a b c d x y (sym e ∙ i))
   where
-    go : Splits a x c y → refusal_of f.why (place_behind (length a + 1) f.at) ≡ refusal_of g.why (place_behind (length c + 1) g.at)
+    go : Splits a x c y → refusal_of f.why (place_behind (length a + n) f.at) ≡ refusal_of g.why (place_behind (length c + n) g.at)
     go (same p q) =
-        let (at, why) = first_one x f g l (subst (λ z. IsFirstFault z g) (sym q) n) in
-        ap (λ z. refusal_of z (place_behind (length a + 1) f.at)) why ∙ ap (λ z. refusal_of g.why (place_behind (length z + 1) f.at)) p ∙ ap (λ z. refusal_of g.why (place_behind (length c + 1) z)) at
+        let (at, why) = first_one x f g l (subst (λ z. IsFirstFault z g) (sym q) o) in
+        ap (λ z. refusal_of z (place_behind (length a + n) f.at)) why ∙ ap (λ z. refusal_of g.why (place_behind (length z + n) f.at)) p ∙ ap (λ z. refusal_of g.why (place_behind (length c + n) z)) at
     go (before t p) = absurd (let u = at_item a t x c p m in tokens_or_faults x u.0 f u.1 l.fails)
-    go (behind t p) = absurd (let u = at_item c t y a p k in tokens_or_faults y u.0 g u.1 n.fails)
+    go (behind t p) = absurd (let u = at_item c t y a p k in tokens_or_faults y u.0 g u.1 o.fails)

@@ -34,11 +34,11 @@ end_of start n (bytes ∷ files) = end_of (place_behind n bytes) (suc n) files
 abbrev pub HasTokens : List ℕ → Type 0
 HasTokens bytes = (ls : List Lexeme) × AreTokens bytes ls
 
--- With what the files are refused.
-pub data IsRefusal (files : List (List ℕ)) : Refusal → Type 0 where
+-- With what the files are refused, which are numbered from `first`.
+pub data IsRefusal (first : ℕ) (files : List (List ℕ)) : Refusal → Type 0 where
   -- the files pass the limit in this one
   too_long : (before : List (List ℕ)) (file : List ℕ) (after : List (List ℕ)) → files ≡ before ++ file ∷ after → total before ≤ limit → limit < total before + length file
-      → IsRefusal files (refusal.TooLong (record { file = length before + 1; line = 1; col = 1 }))
+      → IsRefusal first files (refusal.TooLong (record { file = length before + first; line = 1; col = 1 }))
   -- they don't, each file before this one has tokens, and this is its first fault
   fault : (before : List (List ℕ)) (file : List ℕ) (after : List (List ℕ)) (f : Fault) → files ≡ before ++ file ∷ after → total files ≤ limit → AllByRecursion HasTokens before → IsFirstFault file f
-      → IsRefusal files (refusal_of f.why (place_behind (length before + 1) f.at))
+      → IsRefusal first files (refusal_of f.why (place_behind (length before + first) f.at))

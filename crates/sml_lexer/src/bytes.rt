@@ -6,7 +6,7 @@ ghost use Rattle.sml_lexer.specs.Bytes.{is_letter, is_digit, is_hexadecimal, is_
 ghost use Rattle.sml_lexer.specs.Classes.{in_class};
 
 /// A class of bytes that come in runs.
-#[derive(Clone, Copy, PartialEq, Eq, Debug)]
+#[derive(Clone, Copy)]
 pub enum ByteClass {
     Digit,
     Hexadecimal,

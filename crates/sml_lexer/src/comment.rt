@@ -6,7 +6,7 @@ ghost use Rattle.sml_lexer.specs.CommentScan.{mark_at, close_at};
 use crate::bytes::byte_at;
 
 /// What begins at a byte of a comment.
-#[derive(Clone, Copy, PartialEq, Eq, Debug)]
+#[derive(Clone, Copy)]
 enum Mark {
     /// `(*`
     Open,

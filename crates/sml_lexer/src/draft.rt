@@ -70,8 +70,8 @@ pub fn file_tokens(
     draft: &mut Draft,
 ) -> Result<Place, CompileError>
     requires tokens { vec_len draft.old.tokens + length bytes.now ≤ 1048576 }
-    requires names { length draft.old.names + length bytes.now ≤ 1048576 }
-    requires texts { vec_len draft.old.texts + length bytes.now ≤ 1048576 }
+    requires names { length draft.old.names + length bytes.now ≤ 1074790400 }
+    requires texts { vec_len draft.old.texts + length bytes.now ≤ 1074790400 }
     ensures ok { IfOk result (λ end. IsFileOk file bytes.now draft.old draft.new end) }
     ensures err { IfErr result (λ e. IsFileErr file bytes.now e) }
     ensures names { Extends draft.old.names draft.new.names }

@@ -9,5 +9,5 @@ ghost use Rattle.sml_lexer.specs.Tokens.{Lexeme, AreTokens, Fault, Fails};
 pub fn one_reading()
     ensures tokens { (file : List ℕ) (ts us : List Lexeme) → AreTokens file ts → AreTokens file us → ts ≡ us }
     ensures faults { (file : List ℕ) (ts : List Lexeme) (fault : Fault) → AreTokens file ts → Fails file fault → ⊥ }
-    ensures refusals { (files : List (List ℕ)) (r s : Refusal) → IsRefusal files r → IsRefusal files s → r ≡ s }
+    ensures refusals { (first : ℕ) (files : List (List ℕ)) (r s : Refusal) → IsRefusal first files r → IsRefusal first files s → r ≡ s }
 {}

@@ -28,6 +28,3 @@ pub use laws::one_reading;
 pub use lexed::Lexed;
 pub use reserved::Reserved;
 pub use token::{Token, TokenKind};
-
-#[cfg(test)]
-mod tests;

@@ -10,7 +10,7 @@ use crate::bytes::{ByteClass, byte_at, is_digit, is_letter, is_sign, rest, run};
 use crate::reserved::{Reserved, reserved_of};
 
 /// The kind of a spelling.
-#[derive(Clone, Copy, PartialEq, Eq, Debug)]
+#[derive(Clone, Copy)]
 pub enum Class {
     Word(Reserved),
     Id,
@@ -23,14 +23,14 @@ pub enum Class {
 }
 
 /// A spelling of `len` bytes.
-#[derive(Clone, Copy, PartialEq, Eq, Debug)]
+#[derive(Clone, Copy)]
 pub struct Found {
     pub len: usize,
     pub class: Class,
 }
 
 /// What may follow a dot of a long identifier: `len` bytes, 0 for nothing. Another dot may follow where it goes on.
-#[derive(Clone, Copy, PartialEq, Eq, Debug)]
+#[derive(Clone, Copy)]
 pub struct AfterDot {
     pub len: usize,
     pub goes_on: bool,

@@ -11,7 +11,7 @@ use smlc_base::NoMemory;
 use std::alloc::Global;
 
 /// What stands at a byte behind the opening quote.
-#[derive(Clone, Copy, PartialEq, Eq, Debug)]
+#[derive(Clone, Copy)]
 pub enum Item {
     /// A character of `len` bytes.
     Char { code: u64, len: usize },
@@ -156,7 +156,7 @@ fn item_at(bytes: &[u8]) -> Item
 }
 
 /// How a constant ends.
-#[derive(Clone, Copy, PartialEq, Eq, Debug)]
+#[derive(Clone, Copy)]
 pub enum Ending {
     Closed,
     Open,
@@ -164,7 +164,7 @@ pub enum Ending {
 }
 
 /// What was read behind the opening quote: `len` bytes up to its end, and their characters, with 0 for one out of range.
-#[derive(Debug, Drop)]
+#[derive(Drop)]
 pub struct Quoted {
     pub len: usize,
     pub value: Vec<u8>,

@@ -4,7 +4,7 @@ ghost use Rattle.std.specs.Prelude.{◌≡◌};
 ghost use Rattle.sml_lexer.specs.Reserved.{spelling, first_spelled, reserved_of};
 
 /// A reserved word of the Core or of the Modules.
-#[derive(Clone, Copy, PartialEq, Eq, Debug)]
+#[derive(Clone, Copy)]
 pub enum Reserved {
     KwAbstype,
     KwAnd,

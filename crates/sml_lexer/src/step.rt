@@ -16,7 +16,7 @@ use smlc_base::NoMemory;
 use std::alloc::Global;
 
 /// Why a place has no token.
-#[derive(Clone, Copy, PartialEq, Eq, Debug)]
+#[derive(Clone, Copy)]
 pub enum Trouble {
     BadToken,
     Unclosed,
@@ -24,14 +24,14 @@ pub enum Trouble {
 }
 
 /// A fault, so many bytes behind the place.
-#[derive(Clone, Copy, PartialEq, Eq, Debug)]
+#[derive(Clone, Copy)]
 pub struct Spot {
     pub back: usize,
     pub trouble: Trouble,
 }
 
 /// What a token is.
-#[derive(Debug, Drop)]
+#[derive(Drop)]
 pub enum Kind {
     Word(Reserved),
     Id,
@@ -46,7 +46,7 @@ pub enum Kind {
 }
 
 /// What stands at a place.
-#[derive(Debug, Drop)]
+#[derive(Drop)]
 pub enum Step {
     Gap { len: usize },
     Token { len: usize, kind: Kind },

@@ -4,7 +4,7 @@ use crate::reserved::Reserved;
 use smlc_base::{Name, Place};
 
 /// What a token is.
-#[derive(Clone, Copy, PartialEq, Eq, Debug)]
+#[derive(Clone, Copy)]
 pub enum TokenKind {
     /// A reserved word.
     Word(Reserved),
@@ -29,7 +29,7 @@ pub enum TokenKind {
 }
 
 /// A token, with the place of its first byte, and its spelling's first byte and length in its file.
-#[derive(Clone, Copy, PartialEq, Eq, Debug)]
+#[derive(Clone, Copy)]
 pub struct Token {
     pub kind: TokenKind,
     pub place: Place,

@@ -1,8 +1,14 @@
 -- Long identifiers that stand for short ones.
 use Rattle.std.specs.Prelude.{ℕ, List, [], ◌∷◌, Option, codes}
+use Rattle.std.specs.Borrow.{Bor}
+use Rattle.sml_prelude.specs.declared.entry.Entry.{Entry}
 use Rattle.sml_prelude.specs.Entries.{first_of}
 
-abbrev pub long_identifiers : List (List ℕ × List ℕ)
+-- an entry of the table as a pair of texts
+abbrev pub long_row : Entry (Bor (List ℕ)) → List ℕ × List ℕ
+long_row e = (e.text.now, e.meaning.now)
+
+unfoldable pub long_identifiers : List (List ℕ × List ℕ)
 long_identifiers =
     (codes "List.null", codes "null") ∷
     (codes "List.hd", codes "hd") ∷

@@ -4,7 +4,7 @@ use Rattle.smlc_base.specs.declared.primitive.Primitive.{Primitive}
 use Rattle.smlc_base.specs.declared.primitive.Primitive.TheVariants as primitive
 use Rattle.sml_tree.specs.declared.bare.Con.{Con}
 use Rattle.sml_tree.specs.declared.bare.Con.TheVariants as con
-use Rattle.sml_tree.specs.declared.bare.LibraryExn.TheVariants as exn
+use Rattle.smlc_base.specs.declared.exception.LibraryExn.TheVariants as exn
 use Rattle.sml_prelude.specs.declared.values.Value.{Value}
 use Rattle.sml_prelude.specs.declared.values.Value.TheVariants.{Constructor, Builtin}
 use Rattle.sml_prelude.specs.Entries.{first_of}

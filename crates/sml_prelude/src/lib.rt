@@ -5,13 +5,11 @@
 
 pub mod entry;
 pub mod long;
-#[cfg(test)]
-mod tests;
 pub mod text;
 pub mod types;
 pub mod values;
 
-pub use long::short_of;
+pub use long::{long_identifiers, short_of};
 pub use text::library;
 pub use types::{BaseType, type_of};
 pub use values::{Value, is_function, takes_argument, value_of};

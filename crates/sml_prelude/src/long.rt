@@ -1,16 +1,24 @@
 //! Long identifiers that stand for short ones.
 
-ghost use Rattle.std.specs.Prelude.{◌≡◌, option_map};
-ghost use Rattle.sml_prelude.specs.Long.{short_of};
+ghost use Rattle.std.specs.Prelude.{◌≡◌, map, option_map};
+ghost use Rattle.sml_prelude.specs.Long.{long_row, long_identifiers, short_of};
 
 use crate::entry::{Entry, first_of};
 
 /// The short identifier that a long one stands for, if it stands for one.
-#[tactic(auto, unfolding(crate::specs::Long::short_of))]
+#[tactic(auto, unfolding(crate::specs::Long::short_of, crate::specs::Long::long_identifiers))]
 pub fn short_of(text: &[u8]) -> Option<&'static [u8]>
     ensures { option_map (λ short. short.now) result ≡ short_of text.now }
 {
     first_of(&LONG, text)
+}
+
+/// All long identifiers with the short ones, in the order of the table.
+#[tactic(auto, unfolding(crate::specs::Long::long_identifiers))]
+pub fn long_identifiers() -> &'static [Entry<&'static [u8]>]
+    ensures { map long_row result.now ≡ long_identifiers }
+{
+    &LONG
 }
 
 /// The long identifiers with the short ones.

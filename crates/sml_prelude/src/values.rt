@@ -4,8 +4,8 @@ ghost use Rattle.std.specs.Prelude.{◌≡◌};
 ghost use Rattle.sml_prelude.specs.Values.{value_of, is_function, takes_argument};
 
 use crate::entry::{Entry, first_of};
-use sml_tree::bare::{Con, LibraryExn};
-use smlc_base::Primitive;
+use sml_tree::bare::Con;
+use smlc_base::{LibraryExn, Primitive};
 
 /// What a value identifier stands for.
 #[derive(Clone, Copy, PartialEq, Eq, Debug)]

@@ -8,12 +8,13 @@ use Rattle.sml_tree.specs.declared.bare.Bare.{Bare}
 use Rattle.sml_tree.specs.Sets.{has}
 use Rattle.sml_tree.proofs.Members.{IsWithin, in_or_not}
 use Rattle.sml_types.specs.declared.types.TyVar.{TyVar}
-use Rattle.sml_types.specs.Tree.{Tree, occurs}
+use Rattle.sml_types.specs.Tree.{Tree, occurs, admits}
 use Rattle.sml_types.specs.Poly.{Poly, Context, has_num, is_free, mono, scheme_in, is_in, IsFresh}
 use Rattle.sml_types.specs.Typing.{Typing}
 use Rattle.sml_types.proofs.TreeFacts.{inst_same}
 use Rattle.sml_def.specs.State.{Value, Env, look, cut}
-use Rattle.sml_sound.specs.TypedStates.{Agrees, Entry, HasTy, HasScheme, EnvTy}
+use Rattle.sml_sound.proofs.Lists.{at_name}
+use Rattle.sml_sound.specs.TypedStates.{KeepsMarks, Agrees, Entry, HasTy, HasScheme, EnvTy}
 
 look_cut : (xs : List ℕ) (env : Env) (x : ℕ) (v : Value) → has xs x ≡ true → look env x ≡ Some v → look (cut xs env) x ≡ Some v
 look_cut [] env x v h e = cc
@@ -59,14 +60,14 @@ both_false false b h g = refl
 
 module _ (p : Bare) (t : Typing) (sig : List Entry) where
   pub env_cut : (g : TyVar → Tree) (xs ys : List ℕ) (env : Env) → IsWithin xs ys → EnvTy p t sig g ys env → EnvTy p t sig g xs (cut xs env)
-  env_cut g xs ys env w h x m = let k = h x (w x m) in (k.0, look_cut xs env x k.0 m k.1, k.2)
+  env_cut g xs ys env w h = (h.0, (λ x m. let k = h.1 x (w x m) in (k.0, look_cut xs env x k.0 m k.1, k.2)))
 
   pub env_within : (g : TyVar → Tree) (xs ys : List ℕ) (env : Env) → IsWithin xs ys → EnvTy p t sig g ys env → EnvTy p t sig g xs env
-  env_within g xs ys env w h x m = h x (w x m)
+  env_within g xs ys env w h = (h.0, (λ x m. h.1 x (w x m)))
 
   -- a name's value keeps its types where what changes isn't free in its scheme
-  pub scheme_spread : (gens : List TyVar) (g h : TyVar → Tree) → Agrees gens g h → (x : ℕ) (v : Value) → ((w : TyVar) → has_num gens w.num ≡ true → is_free w.num (t.schemes x) ≡ false) → HasScheme p t sig g x v → HasScheme p t sig h x v
-  scheme_spread gens g h agr x v fresh e f af =
+  pub scheme_spread : (gens : List TyVar) (g h : TyVar → Tree) → KeepsMarks t.names g → Agrees t.names gens g h → (x : ℕ) (v : Value) → ((w : TyVar) → has_num gens w.num ≡ true → is_free w.num (t.schemes x) ≡ false) → HasScheme p t sig g x v → HasScheme p t sig h x v
+  scheme_spread gens g h kg agr x v fresh e f af =
       subst (HasTy p t sig v) (inst_same m f s.body (λ w occ. same w occ (has_num s.vars w.num) refl)) (e m am)
     where
       s : Poly
@@ -75,13 +76,20 @@ module _ (p : Bare) (t : Typing) (sig : List Entry) where
       m : TyVar → Tree
       m w = cond (has_num (t.schemes x).vars w.num) (f w) (g w)
 
-      am : Agrees (t.schemes x).vars g m
-      am w n = ap (λ q. cond q (f w) (g w)) n
+      keeps : KeepsMarks t.names m
+      keeps w e = go (has_num (t.schemes x).vars w.num)
+        where
+          go : (q : Bool) → admits t.names (cond q (f w) (g w)) ≡ true
+          go true = af.1 w e
+          go false = kg w e
+
+      am : Agrees t.names (t.schemes x).vars g m
+      am = ((λ w n. ap (λ q. cond q (f w) (g w)) n), keeps)
 
       old : (w : TyVar) → occurs w.num (t.schemes x).body ≡ true → has_num (t.schemes x).vars w.num ≡ false → (q : Bool) → has_num gens w.num ≡ q → g w ≡ f w
       old w occ n true eq =
           let a : occurs w.num (t.schemes x).body ≡ false = both_false (occurs w.num (t.schemes x).body) (has_num (t.schemes x).vars w.num) (fresh w eq) n in cc
-      old w occ n false eq = sym (af w n ∙ agr w eq)
+      old w occ n false eq = sym (af.0 w n ∙ agr.0 w eq)
 
       same : (w : TyVar) → occurs w.num (t.schemes x).body ≡ true → (q : Bool) → has_num (t.schemes x).vars w.num ≡ q → m w ≡ f w
       same w occ true eq = ap (λ q. cond q (f w) (g w)) eq
@@ -99,28 +107,23 @@ module _ (p : Bare) (t : Typing) (sig : List Entry) where
       go false h = refl
   weaker false s n h = h
 
-  pub at_name : (xs : List ℕ) (P : ℕ → Type 0) → AllByRecursion P xs → (x : ℕ) → has xs x ≡ true → P x
-  at_name [] P h x m = cc
-  at_name (y ∷ xs) P h x m = go (nat_eq x y) refl m (at_name xs P h.1 x)
-    where
-      go : (q : Bool) → nat_eq x y ≡ q → (q || has xs x) ≡ true → (has xs x ≡ true → P x) → P x
-      go true e m rest = subst P (sym (eqb-true x y e)) h.0
-      go false e m rest = rest m
-
-  pub env_spread : (c : Context) (gens : List TyVar) (g h : TyVar → Tree) (xs : List ℕ) (env : Env) → Agrees gens g h → AreFresh c gens → IsWithin xs c.names → EnvTy p t sig g xs env → EnvTy p t sig h xs env
-  env_spread c gens g h xs env agr fresh w e x m =
-      let k = e x m in
-      (k.0, k.1, scheme_spread gens g h agr x k.0 (λ v n. weaker (is_in c.own x) (t.schemes x) v.num (at_name c.names (λ x. is_free v.num (scheme_in t.schemes c x) ≡ false) (fresh v n).1 x (w x m))) k.2)
+  pub env_spread : (c : Context) (gens : List TyVar) (g h : TyVar → Tree) (xs : List ℕ) (env : Env) → Agrees t.names gens g h → AreFresh c gens → IsWithin xs c.names → EnvTy p t sig g xs env → EnvTy p t sig h xs env
+  env_spread c gens g h xs env agr fresh w e = (
+    agr.1,
+    (λ x m.
+        let k = e.1 x m in
+        (k.0, k.1, scheme_spread gens g h e.0 agr x k.0 (λ v n. weaker (is_in c.own x) (t.schemes x) v.num (at_name c.names (λ x. is_free v.num (scheme_in t.schemes c x) ≡ false) (fresh v n).1 x (w x m))) k.2)),
+  )
 
   -- where they are one everywhere
-  pub env_same : (g h : TyVar → Tree) (xs : List ℕ) (env : Env) → Agrees [] g h → EnvTy p t sig g xs env → EnvTy p t sig h xs env
-  env_same g h xs env agr e x m = let k = e x m in (k.0, k.1, scheme_spread [] g h agr x k.0 (λ v n. cc) k.2)
+  pub env_same : (g h : TyVar → Tree) (xs : List ℕ) (env : Env) → Agrees t.names [] g h → EnvTy p t sig g xs env → EnvTy p t sig h xs env
+  env_same g h xs env agr e = (agr.1, (λ x m. let k = e.1 x m in (k.0, k.1, scheme_spread [] g h e.0 agr x k.0 (λ v n. cc) k.2)))
 
   -- what is bound in front of an environment
   pub joined : (g : TyVar → Tree) (all ys xs : List ℕ) (e env : Env) → ((x : ℕ) (v : Value) → look e x ≡ Some v → HasScheme p t sig g x v) → ((x : ℕ) → has all x ≡ true → (v : Value) × (look e x ≡ Some v)) → EnvTy p t sig g ys env → ((x : ℕ) → has xs x ≡ true → has all x ≡ false → has ys x ≡ true) → EnvTy p t sig g xs (e ++ env)
-  joined g all ys xs e env hs ha he w x mx = go (look e x) refl
+  joined g all ys xs e env hs ha he w = (he.0, (λ x mx. go x mx (look e x) refl))
     where
-      go : (o : Option Value) → look e x ≡ o → (v : Value) × (look (e ++ env) x ≡ Some v) × HasScheme p t sig g x v
-      go (Some v) ev = (v, look_front e env x v ev, hs x v ev)
-      go None ev =
-          in_or_not all x ((v : Value) × (look (e ++ env) x ≡ Some v) × HasScheme p t sig g x v) (λ a. let v = ha x a in let x = sym ev ∙ v.1 in cc) (λ a. let k = he x (w x mx a) in (k.0, look_back e env x ev ∙ k.1, k.2))
+      go : (x : ℕ) → has xs x ≡ true → (o : Option Value) → look e x ≡ o → (v : Value) × (look (e ++ env) x ≡ Some v) × HasScheme p t sig g x v
+      go x mx (Some v) ev = (v, look_front e env x v ev, hs x v ev)
+      go x mx None ev =
+          in_or_not all x ((v : Value) × (look (e ++ env) x ≡ Some v) × HasScheme p t sig g x v) (λ a. let v = ha x a in let x = sym ev ∙ v.1 in cc) (λ a. let k = he.1 x (w x mx a) in (k.0, look_back e env x ev ∙ k.1, k.2))

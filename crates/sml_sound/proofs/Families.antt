@@ -1,36 +1,49 @@
 -- Types under substitutions, and families of them.
 use Rattle.std.proofs.Common.{◌≡◌, List, [], ◌∷◌, refl, sym, ap, ◌∙◌, subst, inl, inr}
-use Rattle.std.specs.Prelude.{map}
-use Rattle.sml_tree.specs.declared.bare.LibraryExn.{LibraryExn}
-use Rattle.sml_tree.specs.declared.bare.LibraryExn.TheVariants as exn
+use Rattle.std.specs.Prelude.{Bool, true, false, map}
+use Rattle.smlc_base.specs.declared.exception.LibraryExn.{LibraryExn}
+use Rattle.smlc_base.specs.declared.exception.LibraryExn.TheVariants as exn
 use Rattle.sml_types.specs.declared.types.TyVar.{TyVar}
-use Rattle.sml_types.specs.Tree.{Tree, Variable, App, NoParts, Part, inst}
+use Rattle.sml_types.specs.declared.tables.TypeName.{TypeName}
+use Rattle.sml_types.specs.Tree.{Tree, Variable, App, NoParts, Part, inst, admits}
+use Rattle.sml_types.specs.Poly.{Poly, IsInstance, has_num}
 use Rattle.sml_types.specs.Library.{parts, library_exn}
 use Rattle.sml_types.specs.Typing.{IsAmong, Covers, variables}
-use Rattle.sml_types.proofs.TreeFacts.{inst_same}
-use Rattle.sml_sound.specs.TypedStates.{Agrees, Family, InFamily, one}
-
-pub agrees_self : (vs : List TyVar) (g : TyVar → Tree) → Agrees vs g g
-agrees_self vs g v e = refl
-
-pub agrees_trans : (vs : List TyVar) (f g h : TyVar → Tree) → Agrees vs f g → Agrees vs g h → Agrees vs f h
-agrees_trans vs f g h a b v e = b v e ∙ a v e
+use Rattle.sml_types.proofs.TreeFacts.{inst_same, admits_inst}
+use Rattle.sml_sound.specs.TypedStates.{KeepsMarks, Agrees, Family, InFamily, one}
 
 pub inst_all : (f g : TyVar → Tree) (t : Tree) → ((v : TyVar) → g v ≡ f v) → inst g t ≡ inst f t
 inst_all f g t h = inst_same g f t (λ v o. h v)
 
-pub only : (g : TyVar → Tree) (u v : Tree) → InFamily (one g u) v → v ≡ inst g u
-only g u v h = h.2 ∙ inst_all g h.0 u (λ w. h.1 w refl)
+module _ (names : List TypeName) where
+  pub agrees_self : (vs : List TyVar) (g : TyVar → Tree) → KeepsMarks names g → Agrees names vs g g
+  agrees_self vs g k = ((λ v e. refl), k)
 
-pub one_in : (g : TyVar → Tree) (u : Tree) → InFamily (one g u) (inst g u)
-one_in g u = (g, (λ v e. refl), refl)
+  pub only : (g : TyVar → Tree) (u v : Tree) → InFamily names (one g u) v → v ≡ inst g u
+  only g u v h = h.2 ∙ inst_all g h.0 u (λ w. h.1.0 w refl)
 
-pub at_in : (f : Family) → InFamily f (inst f.at f.ty)
-at_in f = (f.at, (λ v e. refl), refl)
+  pub at_in : (f : Family) → KeepsMarks names f.at → InFamily names f (inst f.at f.ty)
+  at_in f k = (f.at, agrees_self f.gens f.at k, refl)
 
--- where nothing varies there is one type
-pub single : (f : Family) (u : Tree) → f.gens ≡ [] → InFamily f u → u ≡ inst f.at f.ty
-single f u e h = h.2 ∙ inst_all f.at h.0 f.ty (λ w. (subst (λ vs. Agrees vs f.at h.0) e h.1) w refl)
+  -- where nothing varies there is one type
+  pub single : (f : Family) (u : Tree) → f.gens ≡ [] → InFamily names f u → u ≡ inst f.at f.ty
+  single f u e h = h.2 ∙ inst_all f.at h.0 f.ty (λ w. (subst (λ vs. Agrees names vs f.at h.0) e h.1).0 w refl)
+
+  -- ---- Marks
+
+  pub keeps_both : (g h : TyVar → Tree) → KeepsMarks names g → KeepsMarks names h → KeepsMarks names (λ v. inst g (h v))
+  keeps_both g h kg kh v e = admits_inst names g (h v) (λ w o m. kg w m) (kh v e)
+
+  pub instance_keeps : (s : Poly) (u : Tree) (i : IsInstance names s u) → KeepsMarks names i.at
+  instance_keeps s u i v e = go (has_num s.vars v.num) refl
+    where
+      go : (b : Bool) → has_num s.vars v.num ≡ b → admits names (i.at v) ≡ true
+      go true q = i.marks v q e
+      go false q = ap (admits names) (i.others v q) ∙ e
+
+  -- an instance under a substitution
+  pub instance_agrees : (s : Poly) (u : Tree) (i : IsInstance names s u) (g : TyVar → Tree) → KeepsMarks names g → Agrees names s.vars g (λ v. inst g (i.at v))
+  instance_agrees s u i g k = ((λ v n. ap (inst g) (i.others v n)), keeps_both g i.at k (instance_keeps s u i))
 
 pub inst_parts : (g : TyVar → Tree) (ts : List Tree) → inst g (parts ts) ≡ parts (map (inst g) ts)
 inst_parts g [] = refl

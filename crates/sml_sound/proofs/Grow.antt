@@ -8,7 +8,7 @@ use Rattle.sml_types.specs.Tree.{Tree, inst}
 use Rattle.sml_types.specs.Typing.{Typing}
 use Rattle.simulation.proofs.Lists.{get_append}
 use Rattle.sml_def.specs.State.{Value, Number, Letter, Nothing, Tag, Constant, Builtin, Maker, RefMaker, Library, At, Env, Address, Awaits, FunctionPart, ArgumentPart, FieldPart, Subject, RightSide, RaisePart, Guarded, Block, Tuple, Applied, Text, Cell, ExnName, Packet, Closure, Frame, Pending}
-use Rattle.sml_sound.specs.TypedStates.{Family, Entry, Holds, Takes, Names, Compares, HasTy, HaveTys, IsName, EnvTy, EnvTys, Accepts, FrameTy, BeforeTy, AreCompared, BlockTy, StoreTy}
+use Rattle.sml_sound.specs.TypedStates.{Family, Entry, Holds, Takes, Names, Compares, HasTy, HaveTys, IsName, EnvTy, EnvTys, Accepts, FrameTy, BeforeTy, IsComparable, AreCompared, BlockTy, StoreTy}
 
 module _ (p : Bare) (t : Typing) where
   module _ (sig more : List Entry) where
@@ -35,8 +35,11 @@ module _ (p : Bare) (t : Typing) where
     name_up _ u h = absurd h
 
     pub env_up : (g : TyVar → Tree) (xs : List ℕ) (env : Env) → EnvTy p t sig g xs env → EnvTy p t (sig ++ more) g xs env
-    env_up g xs env h x m =
-        let k = h x m in (k.0, k.1, (λ f a. value_up k.0 (inst f (t.schemes x).body) (k.2 f a)))
+    env_up g xs env h = (
+      h.0,
+      (λ x m.
+          let k = h.1 x m in (k.0, k.1, (λ f a. value_up k.0 (inst f (t.schemes x).body) (k.2 f a)))),
+    )
 
     pub envs_up : (f : Family) (xs : List ℕ) (env : Env) → EnvTys p t sig f xs env → EnvTys p t (sig ++ more) f xs env
     envs_up f xs env h g a = env_up g xs env (h g a)
@@ -61,6 +64,9 @@ module _ (p : Bare) (t : Typing) where
     frame_up (RaisePart i) f m k h = (h.0, h.1, accepts_up k _ h.2)
     frame_up (Guarded i rules env) f m k h = (h.0, h.1, h.2, env_up f.at _ env h.3, accepts_up k _ h.4)
 
+    pub comparable_up : (v w : Value) → IsComparable p t sig v w → IsComparable p t (sig ++ more) v w
+    comparable_up v w h = (h.0, h.1, value_up v h.0 h.2, value_up w h.0 h.3)
+
     pub compared_up : (next : Option Address) → AreCompared p t sig next → AreCompared p t (sig ++ more) next
     compared_up None h = tt
     compared_up (Some a) h = get_append sig more a Compares h
@@ -73,8 +79,8 @@ module _ (p : Bare) (t : Typing) where
     block_up (ExnName x) (Names u) h = h
     block_up (Packet x v) (Holds f) h = (h.0, h.1, name_up x _ h.2, value_up v h.1 h.3)
     block_up (Closure i rules env) (Holds f) h = (h.0, h.1, envs_up f _ env h.2)
-    block_up (Frame w next) (Takes f m) h = frame_up w f m next h
-    block_up (Pending v w next) Compares h = compared_up next h
+    block_up (Frame w next) (Takes f m) h = (h.0, frame_up w f m next h.1)
+    block_up (Pending v w next) Compares h = (comparable_up v w h.0, compared_up next h.1)
     block_up _ _ h = absurd h
 
     pub store_up : (es : List Entry) (bs : List Block) → StoreTy p t sig es bs → StoreTy p t (sig ++ more) es bs

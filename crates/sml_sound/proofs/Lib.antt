@@ -6,6 +6,8 @@ pub mod Names
 pub mod Values
 pub mod Environments
 pub mod Matching
+pub mod Equality
+pub mod Comparing
 pub mod Rows
 pub mod Plain
 pub mod SafeActs

@@ -9,7 +9,7 @@ use Rattle.sml_tree.specs.declared.bare.Node.TheVariants as node
 use Rattle.sml_tree.specs.declared.bare.Con.{Con}
 use Rattle.sml_tree.specs.declared.bare.Con.TheVariants as con
 use Rattle.sml_tree.specs.declared.bare.Field.{Field}
-use Rattle.sml_tree.specs.declared.bare.LibraryExn.{LibraryExn}
+use Rattle.smlc_base.specs.declared.exception.LibraryExn.{LibraryExn}
 use Rattle.sml_tree.specs.Sets.{has, union, union_over}
 use Rattle.sml_tree.specs.BareParts.{IsNumbered, at_node, within}
 use Rattle.sml_tree.specs.IsBare.{HasSorts}
@@ -28,7 +28,7 @@ use Rattle.sml_def.specs.Match.{block_of, bytes_of, same_exn, packet_block, appl
 use Rattle.sml_def.specs.Match as match
 use Rattle.sml_sound.proofs.Rows.{Placed, placed_in}
 use Rattle.sml_sound.specs.TypedStates.{Entry, Holds, Names, EntryTy, HasTy, HaveTys, IsName, IsCon, data_ty, HasScheme, EnvTy, IsApplied, BlockTy, StoreTy}
-use Rattle.sml_sound.proofs.Families.{inst_parts, library_closed}
+use Rattle.sml_sound.proofs.Families.{inst_parts, library_closed, instance_agrees}
 use Rattle.sml_sound.proofs.Tables.{con_same, applied_arg, data_takes, library_con}
 use Rattle.sml_sound.proofs.Grow.{store_get}
 use Rattle.sml_sound.proofs.Values.{a_record, exn_con}
@@ -44,7 +44,7 @@ pub record Bound (p : Bare) (t : Typing) (sig : List Entry) (g : TyVar → Tree)
 
 module _ (p : Bare) (t : Typing) (typing : IsTyping p t) (numbered : IsNumbered p.nodes) (sorts : AllByRecursion (HasSorts p.nodes) p.nodes) (sig : List Entry) (bs : List Block) (store : StoreTy p t sig sig bs) where
   -- the block of a value, with the entry that gives it its type
-  block_has : (v : Value) (u : Tree) (b : Block) → HasTy p t sig v u → block_of bs v ≡ Some b → (e : Entry) × BlockTy p t sig b e × EntryTy p t e u
+  pub block_has : (v : Value) (u : Tree) (b : Block) → HasTy p t sig v u → block_of bs v ≡ Some b → (e : Entry) × BlockTy p t sig b e × EntryTy p t e u
   block_has (At a) u b h g =
       let k = store_get p t sig sig bs a h.0 store h.1 in
       let same : k.0 ≡ b = (let d = k.1 in cc) in (h.0, subst (λ b. BlockTy p t sig b h.0) same k.2, h.2)
@@ -59,16 +59,16 @@ module _ (p : Bare) (t : Typing) (typing : IsTyping p t) (numbered : IsNumbered 
   block_has (Library e) u b h g = cc
 
   -- what an entry says of each form of block
-  applied_of : (k : ℕ) (w : Value) (u : Tree) (e : Entry) → BlockTy p t sig (Applied k w) e → EntryTy p t e u → IsApplied p t sig k w u
+  pub applied_of : (k : ℕ) (w : Value) (u : Tree) (e : Entry) → BlockTy p t sig (Applied k w) e → EntryTy p t e u → IsApplied p t sig k w u
   applied_of k w u (Holds f) h i = h u i
   applied_of k w u _ h i = absurd h
 
-  cell_of : (w : Value) (u a : Tree) (e : Entry) → BlockTy p t sig (Cell w) e → EntryTy p t e u → u ≡ ref_ty a → HasTy p t sig w a
+  pub cell_of : (w : Value) (u a : Tree) (e : Entry) → BlockTy p t sig (Cell w) e → EntryTy p t e u → u ≡ ref_ty a → HasTy p t sig w a
   cell_of w u a (Holds f) h i e =
       let same : h.0 ≡ a = (let x = sym (h.1 u i) ∙ e in cc) in subst (HasTy p t sig w) same h.2
   cell_of w u a _ h i e = absurd h
 
-  packet_of : (x w : Value) (u : Tree) (e : Entry) → BlockTy p t sig (Packet x w) e → EntryTy p t e u → (b : Tree) × IsName p t sig x (arrow b exn_ty) × HasTy p t sig w b
+  pub packet_of : (x w : Value) (u : Tree) (e : Entry) → BlockTy p t sig (Packet x w) e → EntryTy p t e u → (b : Tree) × IsName p t sig x (arrow b exn_ty) × HasTy p t sig w b
   packet_of x w u (Holds f) h i = (h.1, h.2, h.3)
   packet_of x w u _ h i = absurd h
 
@@ -77,7 +77,7 @@ module _ (p : Bare) (t : Typing) (typing : IsTyping p t) (numbered : IsNumbered 
   library_arg e c d h (inl q) = absurd (let x = h ∙ q in cc)
   library_arg e c d h (inr q) = let x = h ∙ q in cc
 
-  same_names : (a : ℕ) (c d b : Tree) → HasTy p t sig (At a) (arrow c d) → slice_get sig a ≡ Some (Names (arrow b exn_ty)) → b ≡ c
+  pub same_names : (a : ℕ) (c d b : Tree) → HasTy p t sig (At a) (arrow c d) → slice_get sig a ≡ Some (Names (arrow b exn_ty)) → b ≡ c
   same_names a c d b h g =
       let e : h.0 ≡ Names (arrow b exn_ty) = (let x = h.1 in cc) in
       let q : arrow c d ≡ arrow b exn_ty = subst (λ e. EntryTy p t e (arrow c d)) e h.2 in cc
@@ -93,13 +93,13 @@ module _ (p : Bare) (t : Typing) (typing : IsTyping p t) (numbered : IsNumbered 
     -- the value of an exception constructor
     pub exn_value : (c : Context) (x : ℕ) (u : Tree) (v : Value) → has xs x ≡ true → IsInstance t.names (t.schemes x) u → look env x ≡ Some v → HasTy p t sig v (inst g u)
     exn_value c x u v m i e =
-        let k = known x m in
+        let k = known.1 x m in
         let same : k.0 ≡ v = (let d = k.1 in cc) in
         subst (HasTy p t sig v) (sym (ap (inst g) i.is ∙ inst_inst g i.at (t.schemes x).body))
-        (subst (λ v. HasScheme p t sig g x v) same k.2 (λ w. inst g (i.at w)) (λ w n. ap (inst g) (i.others w n)))
+        (subst (λ v. HasScheme p t sig g x v) same k.2 (λ w. inst g (i.at w)) (instance_agrees t.names (t.schemes x) u i g known.0))
 
     -- what a constructor is applied to
-    argument_ty : (c : Context) (k : Con) (a u : Tree) (v : Value) → HasConTy p t c k (arrow a u) → takes_argument k ≡ true → IsWithin (exception_of k) xs → HasTy p t sig v (inst g u) → IfSome (argument_of env bs k v) (λ w. HasTy p t sig w (inst g a))
+    pub argument_ty : (c : Context) (k : Con) (a u : Tree) (v : Value) → HasConTy p t c k (arrow a u) → takes_argument k ≡ true → IsWithin (exception_of k) xs → HasTy p t sig v (inst g u) → IfSome (argument_of env bs k v) (λ w. HasTy p t sig w (inst g a))
     argument_ty c (con.Data n k takes) a u v h q m hv = go (block_of bs v) refl
       where
         d : (ps : List TyVar) × (b : Tree) × IsCon p t n k ps (Some b) × (h.0 ≡ poly ps (arrow b (data_ty p t n ps)))
@@ -197,7 +197,7 @@ module _ (p : Bare) (t : Typing) (typing : IsTyping p t) (numbered : IsNumbered 
     abbrev FitsTy : (ℕ → Value → Option Env) → Type 0
     FitsTy part = (i : ℕ) (v : Value) → IsWithin (free p.nodes i) xs → HasTy p t sig v (inst g (t.types i)) → IfSome (part i v) (Bind (t.binds i) (binds p.nodes i))
 
-    have_at : (vs : List Value) (us : List Tree) (k : ℕ) (v : Value) (u : Tree) → HaveTys p t sig vs us → slice_get vs k ≡ Some v → slice_get us k ≡ Some u → HasTy p t sig v u
+    pub have_at : (vs : List Value) (us : List Tree) (k : ℕ) (v : Value) (u : Tree) → HaveTys p t sig vs us → slice_get vs k ≡ Some v → slice_get us k ≡ Some u → HasTy p t sig v u
     have_at [] us k v u h e d = cc
     have_at (w ∷ vs) [] k v u h e d = absurd h
     have_at (w ∷ vs) (x ∷ us) zero v u h e d =

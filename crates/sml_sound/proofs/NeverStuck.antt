@@ -16,7 +16,8 @@ use Rattle.sml_def.specs.Memory.{Memory, Next}
 use Rattle.sml_def.specs.State.{Control, Eval, Ret, Apply, Raise, Eq, End, Ending, Normal, Uncaught}
 use Rattle.sml_def.specs.Step.{step}
 use Rattle.sml_def.specs.Run as run
-use Rattle.sml_sound.specs.NeverStuck.{NeverStuck}
+use Rattle.sml_def.proofs.Sound.{points_stand_once}
+use Rattle.sml_sound.specs.NeverStuck.{NeverStuck, SourceIsSound}
 use Rattle.sml_sound.specs.TypedStates.{one, ControlTy, IsExp, IsTyped}
 use Rattle.sml_sound.proofs.SafeActs.{Safe, Ready}
 use Rattle.sml_sound.proofs.Safe.{step_safe}
@@ -60,7 +61,7 @@ module _ (p : Bare) (t : Typing) (typing : IsTyping p t) (bare : IsBare p) where
   next_typed s h =
       ⊎_elim (λ e. subst (λ o. IsTyped p t (next_of s o)) (sym (no_step s e.0 e.1)) h) (λ n. subst (λ o. IsTyped p t (next_of s o)) (sym n.1) n.2) (ends_or_goes s h)
 
-  all_typed : (s : run.State) → IsTyped p t s → (n : ℕ) → IsTyped p t (state_at (machine_of (run.source p)) s n)
+  pub all_typed : (s : run.State) → IsTyped p t s → (n : ℕ) → IsTyped p t (state_at (machine_of (run.source p)) s n)
   all_typed s h zero = h
   all_typed s h (suc n) = next_typed (state_at (machine_of (run.source p)) s n) (all_typed s h n)
 
@@ -86,17 +87,18 @@ module _ (p : Bare) (t : Typing) (typing : IsTyping p t) (bare : IsBare p) where
       go None q h = cc
       go (Some _) q h = cc
 
-  start_typed : (input : List ℕ) → IsTyped p t (run.start input)
+  pub start_typed : (input : List ℕ) → IsTyped p t (run.start input)
   start_typed input = record {
     sig = [];
     store = tt;
     descend = tt;
     control = record {
       family = one Variable (t.types 0);
+      keeps = λ v e. e;
       exp = root_exp (length p.nodes) bare.nest;
       ty = refl;
       fixed = inl refl;
-      knows = λ g a x m. let none : has [] x ≡ true = sym (ap (λ xs. has xs x) bare.bound) ∙ m in cc;
+      knows = λ g a. (a.1, (λ x m. let none : has [] x ≡ true = sym (ap (λ xs. has xs x) bare.bound) ∙ m in cc));
       takes = tt;
     };
   }
@@ -104,3 +106,9 @@ module _ (p : Bare) (t : Typing) (typing : IsTyping p t) (bare : IsBare p) where
 pub never_stuck : NeverStuck
 never_stuck p bare t typing input n =
     not_stuck p t typing bare (state_at (machine_of (run.source p)) (run.start input) n) (all_typed p t typing bare (run.start input) (start_typed p t typing bare input) n)
+
+pub source_is_sound : SourceIsSound
+source_is_sound p bare t typing input = record {
+  never_stuck = never_stuck p bare t typing input;
+  once = λ q not_eq. points_stand_once p bare q;
+}

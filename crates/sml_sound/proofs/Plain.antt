@@ -181,7 +181,7 @@ module _ (p : Bare) (t : Typing) where
 
   -- ---- No datatype of the program is the library's `ref`
 
-  chosen_at : (group : List ℕ) (choice : ℕ → Bool) (k : ℕ) (names : List TypeName) (n : ℕ) (row : TypeName) → slice_get names n ≡ Some row → (s : TypeName) × (slice_get (choose group choice k names) n ≡ Some s) × (is_in group (k + n) ≡ true → s.eq ≡ cond (choice (k + n)) Parts Never)
+  pub chosen_at : (group : List ℕ) (choice : ℕ → Bool) (k : ℕ) (names : List TypeName) (n : ℕ) (row : TypeName) → slice_get names n ≡ Some row → (s : TypeName) × (slice_get (choose group choice k names) n ≡ Some s) × (is_in group (k + n) ≡ true → s.eq ≡ cond (choice (k + n)) Parts Never)
   chosen_at group choice k [] n row e = cc
   chosen_at group choice k (x ∷ names) (suc n) row e =
       let r = chosen_at group choice (suc k) names n row e in
@@ -202,25 +202,26 @@ module _ (p : Bare) (t : Typing) where
       let same : r.0 ≡ lib = (let x : Some r.0 ≡ Some lib = sym r.1 ∙ ap (λ ns. slice_get ns ref_number) h.chosen ∙ e in cc) in
       not_always (h.choice ref_number) (sym a ∙ sym (ap (λ (s : TypeName). s.eq) same) ∙ r.2 m)
 
-  declares : (bindings : List DatBinding) (k : ℕ) (takes : Bool) → slice_get (flat_map (λ d. cond (nat_eq d.type_name ref_number) (map (λ c. is_some c.arg) d.cons) []) bindings) k ≡ Some takes → is_in (type_numbers bindings) ref_number ≡ true
-  declares [] k takes e = cc
-  declares (d ∷ bindings) k takes e = go (nat_eq d.type_name ref_number) refl e (declares bindings k takes)
+  declares : (n : ℕ) (bindings : List DatBinding) (k : ℕ) (takes : Bool) → slice_get (flat_map (λ d. cond (nat_eq d.type_name n) (map (λ c. is_some c.arg) d.cons) []) bindings) k ≡ Some takes → is_in (type_numbers bindings) n ≡ true
+  declares n [] k takes e = cc
+  declares n (d ∷ bindings) k takes e = go (nat_eq d.type_name n) refl e (declares n bindings k takes)
     where
-      go : (b : Bool) → nat_eq d.type_name ref_number ≡ b → slice_get (cond b (map (λ c. is_some c.arg) d.cons) [] ++ flat_map (λ d. cond (nat_eq d.type_name ref_number) (map (λ c. is_some c.arg) d.cons) []) bindings) k ≡ Some takes → (slice_get (flat_map (λ d. cond (nat_eq d.type_name ref_number) (map (λ c. is_some c.arg) d.cons) []) bindings) k ≡ Some takes → is_in (type_numbers bindings) ref_number ≡ true) → (nat_eq ref_number d.type_name || is_in (type_numbers bindings) ref_number) ≡ true
-      go true q h rest = ap (λ b. b || is_in (type_numbers bindings) ref_number) (eq-eqb ref_number d.type_name (sym (eqb-true d.type_name ref_number q)))
-      go false q h rest = or_right (nat_eq ref_number d.type_name) (is_in (type_numbers bindings) ref_number) (rest h)
+      go : (b : Bool) → nat_eq d.type_name n ≡ b → slice_get (cond b (map (λ c. is_some c.arg) d.cons) [] ++ flat_map (λ d. cond (nat_eq d.type_name n) (map (λ c. is_some c.arg) d.cons) []) bindings) k ≡ Some takes → (slice_get (flat_map (λ d. cond (nat_eq d.type_name n) (map (λ c. is_some c.arg) d.cons) []) bindings) k ≡ Some takes → is_in (type_numbers bindings) n ≡ true) → (nat_eq n d.type_name || is_in (type_numbers bindings) n) ≡ true
+      go true q h rest = ap (λ b. b || is_in (type_numbers bindings) n) (eq-eqb n d.type_name (sym (eqb-true d.type_name n q)))
+      go false q h rest = or_right (nat_eq n d.type_name) (is_in (type_numbers bindings) n) (rest h)
 
-  none_declares : (nodes : List Node) → ((i : ℕ) (bindings : List DatBinding) → slice_get nodes i ≡ Some (node.Datatype bindings) → is_in (type_numbers bindings) ref_number ≡ true → ⊥) → (k : ℕ) (takes : Bool) → slice_get (flat_map (declared_by ref_number) nodes) k ≡ Some takes → ⊥
-  none_declares [] h k takes e = cc
-  none_declares (n ∷ nodes) h k takes e =
-      ⊎_elim (here n h) (λ s. none_declares nodes (λ i. h (suc i)) s.0 takes s.2) (get_split (declared_by ref_number n) (flat_map (declared_by ref_number) nodes) k takes e)
+  -- where a type name has constructors in the program, one of its nodes declares it
+  pub declaring : (m : ℕ) (G : Type 0) (nodes : List Node) → ((i : ℕ) (bindings : List DatBinding) → slice_get nodes i ≡ Some (node.Datatype bindings) → is_in (type_numbers bindings) m ≡ true → G) → (k : ℕ) (takes : Bool) → slice_get (flat_map (declared_by m) nodes) k ≡ Some takes → G
+  declaring m G [] h k takes e = cc
+  declaring m G (n ∷ nodes) h k takes e =
+      ⊎_elim (here n h) (λ s. declaring m G nodes (λ i. h (suc i)) s.0 takes s.2) (get_split (declared_by m n) (flat_map (declared_by m) nodes) k takes e)
     where
-      here : (n : Node) → ((i : ℕ) (bindings : List DatBinding) → slice_get (n ∷ nodes) i ≡ Some (node.Datatype bindings) → is_in (type_numbers bindings) ref_number ≡ true → ⊥) → slice_get (declared_by ref_number n) k ≡ Some takes → ⊥
-      here (node.Datatype bindings) h e = h 0 bindings refl (declares bindings k takes e)
+      here : (n : Node) → ((i : ℕ) (bindings : List DatBinding) → slice_get (n ∷ nodes) i ≡ Some (node.Datatype bindings) → is_in (type_numbers bindings) m ≡ true → G) → slice_get (declared_by m n) k ≡ Some takes → G
+      here (node.Datatype bindings) h e = h 0 bindings refl (declares m bindings k takes e)
       here _ h e = cc
 
   -- a constructor that stands is none of the library's `ref`
   pub new_con : IsTyping p t → (n k : ℕ) (takes : Bool) → slice_get (cons_of p.nodes n) k ≡ Some takes → n ≢ ref_number
   new_con typing n k takes e same =
       let lib = row_at p t typing.library ref_number _ refl in
-      none_declares p.nodes (λ i bindings g m. let r = typing.rules i (node.Datatype bindings) (get_lt p.nodes i (node.Datatype bindings) g) g in group_old lib.0 (type_numbers bindings) lib.1 (ap (λ r. r.eq) lib.2) r.1 m) k takes (subst (λ n. slice_get (cons_of p.nodes n) k ≡ Some takes) same e)
+      declaring ref_number ⊥ p.nodes (λ i bindings g m. let r = typing.rules i (node.Datatype bindings) (get_lt p.nodes i (node.Datatype bindings) g) g in group_old lib.0 (type_numbers bindings) lib.1 (ap (λ r. r.eq) lib.2) r.1 m) k takes (subst (λ n. slice_get (cons_of p.nodes n) k ≡ Some takes) same e)

@@ -6,7 +6,7 @@ use Rattle.sml_def.specs.Run as run
 use Rattle.sml_def.specs.State.{Cell, Value, At, Env, Address, Awaits, Block, Frame, Control, Eval, Ret, Focus}
 use Rattle.sml_sound.proofs.Environments.{env_same}
 use Rattle.sml_sound.proofs.Grow.{store_up, block_up, store_len, store_append, envs_up, accepts_up}
-use Rattle.sml_sound.specs.TypedStates.{BlockTy, FrameTy, Family, one, Entry, Holds, Takes, EnvTy, EnvTys, Accepts, TakesAll, Fits, IsExp, IsFixed, StoreTy, Descends, AllDescend, TakesNode, ControlTy}
+use Rattle.sml_sound.specs.TypedStates.{KeepsMarks, BlockTy, FrameTy, Family, one, Entry, Holds, Takes, EnvTy, EnvTys, Accepts, TakesAll, Fits, IsExp, IsFixed, StoreTy, Descends, AllDescend, TakesNode, ControlTy}
 use Rattle.sml_tree.specs.Free.{free}
 use Rattle.sml_tree.specs.IsBare.{IsBare}
 use Rattle.sml_tree.specs.declared.bare.Bare.{Bare}
@@ -88,13 +88,13 @@ module _ {p : Bare} {t : Typing} {m : Memory} {sig : List Entry} (ready : Ready 
       making_safe b (Holds f) (λ a. Ret (At a) k) hb d
       (accept_map (sig ++ more) k (TakesAll p t f) (Fits p t (sig ++ more) (At (length m.store))) (λ g b h. ((λ u i. (Holds f, new_at (Holds f), h.0 u i)), (λ e. let x = h.1 in cc))) (accepts_up p t sig more k (TakesAll p t f) hk))
 
-  pub awaiting_safe : (w : Awaits) (k : Option Address) (i : ℕ) (env : Env) (f : Family) (b : Bool) → FrameTy p t sig w f b k → f.ty ≡ t.types i → IsExp p t i → IsFixed p t f.gens i → EnvTys p t sig f (free p.nodes i) env → (b ≡ true → (n c : ℕ) × (slice_get p.nodes i ≡ Some (node.Constructor (con.Data n c true)))) → Safe p t m.store (awaiting m w k (Eval i env))
-  awaiting_safe w k i env f b hw ht he hg hn hb =
-      making_safe (Frame w k) (Takes f b) (λ a. Eval i env (Some a)) hw tt
-      (record { family = f; exp = he; ty = ht; fixed = hg; knows = envs_up p t sig (Takes f b ∷ []) f (free p.nodes i) env hn; takes = (f, b, new_at (Takes f b), ((λ u x. x), hb)) })
+  pub awaiting_safe : (w : Awaits) (k : Option Address) (i : ℕ) (env : Env) (f : Family) (b : Bool) → KeepsMarks t.names f.at → FrameTy p t sig w f b k → f.ty ≡ t.types i → IsExp p t i → IsFixed p t f.gens i → EnvTys p t sig f (free p.nodes i) env → (b ≡ true → (n c : ℕ) × (slice_get p.nodes i ≡ Some (node.Constructor (con.Data n c true)))) → Safe p t m.store (awaiting m w k (Eval i env))
+  awaiting_safe w k i env f b hk hw ht he hg hn hb =
+      making_safe (Frame w k) (Takes f b) (λ a. Eval i env (Some a)) (hk, hw) tt
+      (record { family = f; keeps = hk; exp = he; ty = ht; fixed = hg; knows = envs_up p t sig (Takes f b ∷ []) f (free p.nodes i) env hn; takes = (f, b, new_at (Takes f b), ((λ u x. x), hb)) })
 
   -- an expression is evaluated for one type
   pub going_eval : (i : ℕ) (env : Env) (k : Option Address) (g : TyVar → Tree) → IsExp p t i → EnvTy p t sig g (free p.nodes i) env → Accepts p t sig k (TakesAll p t (one g (t.types i))) → Safe p t m.store (going m (Eval i env k))
   going_eval i env k g he hn hk =
       going_safe (Eval i env k)
-      (record { family = one g (t.types i); exp = he; ty = refl; fixed = inl refl; knows = (λ h a. env_same p t sig g h (free p.nodes i) env a hn); takes = accept_map sig k (TakesAll p t (one g (t.types i))) (TakesNode p t i (one g (t.types i))) (λ f b h. (h.0, (λ e. let x = h.1 in cc))) hk })
+      (record { family = one g (t.types i); keeps = hn.0; exp = he; ty = refl; fixed = inl refl; knows = (λ h a. env_same p t sig g h (free p.nodes i) env a hn); takes = accept_map sig k (TakesAll p t (one g (t.types i))) (TakesNode p t i (one g (t.types i))) (λ f b h. (h.0, (λ e. let x = h.1 in cc))) hk })

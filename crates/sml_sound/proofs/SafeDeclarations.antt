@@ -5,13 +5,13 @@ use Rattle.sml_def.specs.Memory.{Memory, going, making_all}
 use Rattle.sml_def.specs.State.{RightSide, ExnName, Library, Closure, Value, At, Env, Address, Block, look}
 use Rattle.sml_def.specs.Step.{eval_dec, declare, env_of_rest, eval_in, env_of, function_of, group_env, closures, closure_of}
 use Rattle.sml_sound.proofs.Environments.{env_same, joined, env_spread, env_within, AreFresh, env_cut}
-use Rattle.sml_sound.proofs.Families.{library_closed, inst_all, agrees_self}
+use Rattle.sml_sound.proofs.Families.{library_closed, inst_all, agrees_self, instance_keeps}
 use Rattle.sml_sound.proofs.Grow.{env_up, store_len, accepts_up}
 use Rattle.sml_sound.proofs.Lists.{all_at, get_lt}
 use Rattle.sml_sound.proofs.Names.{group_bound, rule_at, sorts_at, free_known, self_in}
 use Rattle.sml_sound.proofs.SafeActs.{Ready, Safe, making_all_safe, making_safe, new_at, accept_map, awaiting_safe, going_eval}
 use Rattle.sml_sound.proofs.SafeNodes.{known, exp_of}
-use Rattle.sml_sound.specs.TypedStates.{Names, EvalTy, IsExnCon, free_of_rest, Agrees, Family, family, one, Entry, Holds, HasTy, HasScheme, EnvTy, Accepts, TakesAll, IsExp, StoreTy, AllDescend, TakesNode}
+use Rattle.sml_sound.specs.TypedStates.{KeepsMarks, Names, EvalTy, IsExnCon, free_of_rest, Agrees, Family, family, one, Entry, Holds, HasTy, HasScheme, EnvTy, Accepts, TakesAll, IsExp, StoreTy, AllDescend, TakesNode}
 use Rattle.sml_tree.proofs.FreeParts.{free_unfold}
 use Rattle.sml_tree.proofs.Members.{without_parts, within_each, IsWithin, within_left, within_right, within_head, within_tail, within_rest, within_both, either, has-union}
 use Rattle.sml_tree.specs.BareParts.{within, at_node}
@@ -55,7 +55,7 @@ module _ {p : Bare} {t : Typing} {m : Memory} {sig : List Entry} (ready : Ready 
   exp_lt : (i : ℕ) → IsExp p t i → i < length p.nodes
   exp_lt i h = get_lt p.nodes i h.0 h.1
 
-  pub declare_safe : (bs : List Binding) (body : ℕ) (env : Env) (k : Option Address) (g : TyVar → Tree) (c : Context) (us : List ℕ) → AllByRecursion (IsBinding p t c (with_tyvars us c)) bs → AllByRecursion (λ b. IsExp p t b.right) bs → AllByRecursion (λ b. b.pat < length p.nodes) bs → IsExp p t body → EnvTy p t sig g (needed bs body) env → Accepts p t sig k (TakesAll p t (one g (t.types body))) → Safe p t m.store (declare p m bs body env k)
+  pub declare_safe : (bs : List Binding) (body : ℕ) (env : Env) (k : Option Address) (g : TyVar → Tree) (c : Context) (us : List ℕ) → AllByRecursion (IsBinding p t c (with_tyvars us c)) bs → AllByRecursion (λ b. IsExp p t b.right) bs → AllByRecursion (λ b. (b.pat < length p.nodes) × IsOf p.nodes Pattern b.pat) bs → IsExp p t body → EnvTy p t sig g (needed bs body) env → Accepts p t sig k (TakesAll p t (one g (t.types body))) → Safe p t m.store (declare p m bs body env k)
   declare_safe [] body env k g c us hb hr hp hx he hk =
       going_eval ready body (env_of p body env) k g hx (env_cut p t sig g (free p.nodes body) (needed [] body) env (λ z q. within_rest (free p.nodes body) [] z q refl) he) hk
   declare_safe (b ∷ later) body env k g c us hb hr hp hx he hk =
@@ -65,7 +65,7 @@ module _ {p : Bare} {t : Typing} {m : Memory} {sig : List Entry} (ready : Ready 
       let rights = union_over (λ b. free p.nodes b.right) (b ∷ later) in
       let rest = without (free p.nodes body) (union_over (λ b. binds p.nodes b.pat) (b ∷ later)) in
       let own = free p.nodes b.right in
-      awaiting_safe ready (RightSide b later body (env_of_rest p b later body env)) k b.right (env_of p b.right env) f false (
+      awaiting_safe ready (RightSide b later body (env_of_rest p b later body env)) k b.right (env_of p b.right env) f false he.0 (
         refl,
         refl,
         refl,
@@ -135,7 +135,7 @@ module _ {p : Bare} {t : Typing} {m : Memory} {sig : List Entry} (ready : Ready 
   get_mid (z ∷ xs) x ys = get_mid xs x ys
 
   -- the names of a group have their schemes, under all substitutions that agree but for what the group generalises
-  group_scheme : (g h : TyVar → Tree) (gens : List TyVar) → Agrees gens g h → (c inner : Context) (full pre : List Entry) (bs : List RecBinding) (a : ℕ) → full ≡ pre ++ map (group_entry g gens) bs → a ≡ length pre → AllByRecursion (IsRecBinding p t c inner) bs → ((n : ℕ) → has_num gens n ≡ false → has_num (all_gens bs) n ≡ false) → (x : ℕ) (v : Value) → look (group_env p a bs) x ≡ Some v → HasScheme p t full h x v
+  group_scheme : (g h : TyVar → Tree) (gens : List TyVar) → Agrees t.names gens g h → (c inner : Context) (full pre : List Entry) (bs : List RecBinding) (a : ℕ) → full ≡ pre ++ map (group_entry g gens) bs → a ≡ length pre → AllByRecursion (IsRecBinding p t c inner) bs → ((n : ℕ) → has_num gens n ≡ false → has_num (all_gens bs) n ≡ false) → (x : ℕ) (v : Value) → look (group_env p a bs) x ≡ Some v → HasScheme p t full h x v
   group_scheme g h gens agr c inner full pre [] a ef ea hb hg x v e = cc
   group_scheme g h gens agr c inner full pre (b ∷ bs) a ef ea hb hg x v e =
       go (nat_eq x b.name.0) refl e (group_scheme g h gens agr c inner full (pre ++ group_entry g gens b ∷ []) bs (suc a) (ef ∙ sym (append_assoc pre (group_entry g gens b ∷ []) (map (group_entry g gens) bs))) (omega (arith, ea, length-append pre (group_entry g gens b ∷ []))) hb.1 (λ n q. (none_of (t.gens b.right) (all_gens bs) n (hg n q)).1) x v)
@@ -147,7 +147,7 @@ module _ {p : Bare} {t : Typing} {m : Memory} {sig : List Entry} (ready : Ready 
       here f af = (
         group_entry g gens b,
         ap (slice_get full) ea ∙ ap (λ l. slice_get l (length pre)) ef ∙ get_mid pre (group_entry g gens b) (map (group_entry g gens) bs),
-        (f, (λ w n. af w (ap (λ (s : Poly). has_num s.vars w.num) poly_is ∙ (none_of (t.gens b.right) (all_gens bs) w.num (hg w.num n)).0) ∙ agr w n), ap (λ (s : Poly). inst f s.body) poly_is),
+        (f, ((λ w n. af.0 w (ap (λ (s : Poly). has_num s.vars w.num) poly_is ∙ (none_of (t.gens b.right) (all_gens bs) w.num (hg w.num n)).0) ∙ agr.0 w n), af.1), ap (λ (s : Poly). inst f s.body) poly_is),
       )
 
       go : (q : Bool) → nat_eq x b.name.0 ≡ q → cond q (Some (At a)) (look (group_env p (suc a) bs) x) ≡ Some v → (look (group_env p (suc a) bs) x ≡ Some v → HasScheme p t full h x v) → HasScheme p t full h x v
@@ -168,7 +168,7 @@ module _ {p : Bare} {t : Typing} {m : Memory} {sig : List Entry} (ready : Ready 
           let v = rest m in (v.0, ap (λ q. cond q (Some (At a)) (look (group_env p (suc a) bs) x)) n ∙ v.1)
 
   -- the closures of a group
-  closures_safe : (g : TyVar → Tree) (gens : List TyVar) (full : List Entry) (all : Env) (bs : List RecBinding) → AllByRecursion (λ b. is_function p.nodes b.right ≡ true) bs → AllByRecursion (λ b. (j : ℕ) → j < length p.nodes → t.contexts j ≡ t.contexts b.right → IsWithin (free p.nodes j) (free p.nodes b.right) → (h : TyVar → Tree) → Agrees gens g h → EnvTy p t full h (free p.nodes j) all) bs → (blocks : List Block) × (closures p all bs ≡ Some blocks) × StoreTy p t full (map (group_entry g gens) bs) blocks × ((a : ℕ) → AllDescend a blocks)
+  closures_safe : (g : TyVar → Tree) (gens : List TyVar) (full : List Entry) (all : Env) (bs : List RecBinding) → AllByRecursion (λ b. is_function p.nodes b.right ≡ true) bs → AllByRecursion (λ b. (j : ℕ) → j < length p.nodes → t.contexts j ≡ t.contexts b.right → IsWithin (free p.nodes j) (free p.nodes b.right) → (h : TyVar → Tree) → Agrees t.names gens g h → EnvTy p t full h (free p.nodes j) all) bs → (blocks : List Block) × (closures p all bs ≡ Some blocks) × StoreTy p t full (map (group_entry g gens) bs) blocks × ((a : ℕ) → AllDescend a blocks)
   closures_safe g gens full all [] hf he = ([], refl, tt, (λ a. tt))
   closures_safe g gens full all (b ∷ bs) hf he =
       let f = function_under (length p.nodes) b.right hf.0 in
@@ -216,28 +216,29 @@ module _ {p : Bare} {t : Typing} {m : Memory} {sig : List Entry} (ready : Ready 
   same_known g q body env k e hx he hk =
       going_eval ready body (env_of p body env) k g hx (env_cut p t sig g (free p.nodes body) (without (free p.nodes body) (binds_of (binds p.nodes) q)) env (λ z m. within_rest (free p.nodes body) (binds_of (binds p.nodes) q) z m (ap (λ xs. has xs z) e)) (behind g q body env he)) hk
 
-  rights_exp : (d : ℕ) (bs : List Binding) → AllByRecursion (λ b. IsOf p.nodes Pattern b.pat × IsOf p.nodes Expression b.right) bs → AllByRecursion (λ c. (d < c) × (c < length p.nodes)) (flat_map (λ b. b.pat ∷ b.right ∷ []) bs) → AllByRecursion (λ b. IsExp p t b.right) bs × AllByRecursion (λ b. b.pat < length p.nodes) bs
+  rights_exp : (d : ℕ) (bs : List Binding) → AllByRecursion (λ b. IsOf p.nodes Pattern b.pat × IsOf p.nodes Expression b.right) bs → AllByRecursion (λ c. (d < c) × (c < length p.nodes)) (flat_map (λ b. b.pat ∷ b.right ∷ []) bs) → AllByRecursion (λ b. IsExp p t b.right) bs × AllByRecursion (λ b. (b.pat < length p.nodes) × IsOf p.nodes Pattern b.pat) bs
   rights_exp d [] s h = (tt, tt)
   rights_exp d (b ∷ bs) s h =
-      let r = rights_exp d bs s.1 h.1.1 in ((exp_of ready b.right h.1.0.1 s.0.1, r.0), (h.0.1, r.1))
+      let r = rights_exp d bs s.1 h.1.1 in ((exp_of ready b.right h.1.0.1 s.0.1, r.0), ((h.0.1, s.0.0), r.1))
 
-  pub inst_weak : (b : Bool) (s : Poly) (u : Tree) → IsInstance t.names (cond b (mono s.body) s) u → (g : TyVar → Tree) × ((v : TyVar) → has_num s.vars v.num ≡ false → g v ≡ Variable v) × (u ≡ inst g s.body)
-  inst_weak true s u h = (h.at, (λ v n. h.others v refl), h.is)
-  inst_weak false s u h = (h.at, h.others, h.is)
+  pub inst_weak : (b : Bool) (s : Poly) (u : Tree) → IsInstance t.names (cond b (mono s.body) s) u → (g : TyVar → Tree) × ((v : TyVar) → has_num s.vars v.num ≡ false → g v ≡ Variable v) × (u ≡ inst g s.body) × KeepsMarks t.names g
+  inst_weak true s u h = (h.at, (λ v n. h.others v refl), h.is, instance_keeps t.names (mono s.body) u h)
+  inst_weak false s u h = (h.at, h.others, h.is, instance_keeps t.names s u h)
 
   -- a value declared by a constructor of exceptions
   con_scheme : (g : TyVar → Tree) (c : Context) (x : ℕ) (k : Con) (env : Env) → is_exception k ≡ true → IsConPoly p t c k (t.schemes x) → EnvTy p t sig g (exception_of k) env → (v : Value) × (con_value env k ≡ Some v) × HasScheme p t sig g x v
   con_scheme g c x (con.Data n k takes) env h s he = cc
   con_scheme g c x con.Ref env h s he = cc
   con_scheme g c x (con.Exn y takes) env h s he =
-      let k = he y.0 (self_in y.0) in
-      (k.0, k.1, (λ f a. subst (λ (s : Poly). HasTy p t sig k.0 (inst f s.body)) (sym s.1) (k.2 f (subst (λ (s : Poly). Agrees s.vars g f) s.1 a))))
+      let k = he.1 y.0 (self_in y.0) in
+      (k.0, k.1, (λ f a. subst (λ (s : Poly). HasTy p t sig k.0 (inst f s.body)) (sym s.1) (k.2 f (subst (λ (s : Poly). Agrees t.names s.vars g f) s.1 a))))
   con_scheme g c x (con.Library e) env h s he =
       (Library e, refl, (λ f a. ap (λ (s : Poly). inst f s.body) s ∙ library_closed f e))
 
   eval_ty : (full : List Entry) (i : ℕ) (env : Env) (k : Option Address) (g : TyVar → Tree) → IsExp p t i → EnvTy p t full g (free p.nodes i) env → Accepts p t full k (TakesAll p t (one g (t.types i))) → EvalTy p t full i env k
   eval_ty full i env k g he hn hk = record {
     family = one g (t.types i);
+    keeps = hn.0;
     exp = he;
     ty = refl;
     fixed = inl refl;
@@ -246,10 +247,10 @@ module _ {p : Bare} {t : Typing} {m : Memory} {sig : List Entry} (ready : Ready 
   }
 
   -- what the functions of a group know
-  each : (c inner : Context) (gens : List TyVar) (full : List Entry) (group env : Env) (g : TyVar → Tree) (bs : List RecBinding) (frees : List ℕ) → ((h : TyVar → Tree) → Agrees gens g h → (x : ℕ) (v : Value) → look group x ≡ Some v → HasScheme p t full h x v) → ((x : ℕ) → has (names_of bs) x ≡ true → (v : Value) × (look group x ≡ Some v)) → EnvTy p t full g (without frees (names_of bs)) env → inner.names ≡ group_names bs ++ c.names → AllByRecursion (IsRecBinding p t c inner) bs → AreFresh p t sig c gens → IsWithin (union_over (λ b. free p.nodes b.right) bs) frees → AllByRecursion (λ b. (j : ℕ) → j < length p.nodes → t.contexts j ≡ t.contexts b.right → IsWithin (free p.nodes j) (free p.nodes b.right) → (h : TyVar → Tree) → Agrees gens g h → EnvTy p t full h (free p.nodes j) (group ++ env)) bs
+  each : (c inner : Context) (gens : List TyVar) (full : List Entry) (group env : Env) (g : TyVar → Tree) (bs : List RecBinding) (frees : List ℕ) → ((h : TyVar → Tree) → Agrees t.names gens g h → (x : ℕ) (v : Value) → look group x ≡ Some v → HasScheme p t full h x v) → ((x : ℕ) → has (names_of bs) x ≡ true → (v : Value) × (look group x ≡ Some v)) → EnvTy p t full g (without frees (names_of bs)) env → inner.names ≡ group_names bs ++ c.names → AllByRecursion (IsRecBinding p t c inner) bs → AreFresh p t sig c gens → IsWithin (union_over (λ b. free p.nodes b.right) bs) frees → AllByRecursion (λ b. (j : ℕ) → j < length p.nodes → t.contexts j ≡ t.contexts b.right → IsWithin (free p.nodes j) (free p.nodes b.right) → (h : TyVar → Tree) → Agrees t.names gens g h → EnvTy p t full h (free p.nodes j) (group ++ env)) bs
   each c inner gens full group env g bs frees hs hh he hi hr hf hw = go bs hr hw
     where
-      go : (cs : List RecBinding) → AllByRecursion (IsRecBinding p t c inner) cs → IsWithin (union_over (λ b. free p.nodes b.right) cs) frees → AllByRecursion (λ b. (j : ℕ) → j < length p.nodes → t.contexts j ≡ t.contexts b.right → IsWithin (free p.nodes j) (free p.nodes b.right) → (h : TyVar → Tree) → Agrees gens g h → EnvTy p t full h (free p.nodes j) (group ++ env)) cs
+      go : (cs : List RecBinding) → AllByRecursion (IsRecBinding p t c inner) cs → IsWithin (union_over (λ b. free p.nodes b.right) cs) frees → AllByRecursion (λ b. (j : ℕ) → j < length p.nodes → t.contexts j ≡ t.contexts b.right → IsWithin (free p.nodes j) (free p.nodes b.right) → (h : TyVar → Tree) → Agrees t.names gens g h → EnvTy p t full h (free p.nodes j) (group ++ env)) cs
       go [] r w = tt
       go (b ∷ cs) r w = (
         (λ j lt ec wj h agr.
@@ -281,9 +282,9 @@ module _ {p : Bare} {t : Typing} {m : Memory} {sig : List Entry} (ready : Ready 
       let n = length m.store in
       let q = node.Exception x arg in
       let lt : x.0 < length p.names = (all_at (Stands p) p.nodes d q ready.bare.stands ed).0 in
-      let here : HasScheme p t (sig ++ more) g x.0 (At n) = λ f a. (Names u, new_at ready (Names u), ap (λ (s : Poly). inst f s.body) r.2 ∙ inst_all g f r.0 (λ w. (subst (λ (s : Poly). Agrees s.vars g f) r.2 a) w refl)) in
+      let here : HasScheme p t (sig ++ more) g x.0 (At n) = λ f a. (Names u, new_at ready (Names u), ap (λ (s : Poly). inst f s.body) r.2 ∙ inst_all g f r.0 (λ w. (subst (λ (s : Poly). Agrees t.names s.vars g f) r.2 a).0 w refl)) in
       let full = one_more g (sig ++ more) x.0 (At n) (without (free p.nodes body) (x.0 ∷ [])) (free p.nodes body) env here (env_up p t sig more g (without (free p.nodes body) (x.0 ∷ [])) env (behind g q body env he)) (λ z a b. within_rest (free p.nodes body) (x.0 ∷ []) z a b) in
-      making_safe ready (ExnName x.0) (Names u) (λ a. eval_in p body ((x.0, At a) ∷ env) k) (lt, exn_con_ty arg r.0 r.1 g) tt
+      making_safe ready (ExnName x.0) (Names u) (λ a. eval_in p body ((x.0, At a) ∷ env) k) (lt, exn_con_ty arg r.0 r.1 g, (λ e. ap (inst g) (sym (ap (λ (s : Poly). s.body) r.2) ∙ e))) tt
       (eval_ty (sig ++ more) body (env_of p body ((x.0, At n) ∷ env)) k g hx (env_cut p t (sig ++ more) g (free p.nodes body) (free p.nodes body) ((x.0, At n) ∷ env) (λ z m. m) full) (accepts_up p t sig more k (TakesAll p t (one g (t.types body))) hk))
   eval_dec_safe d body (node.SameException x c) env k g ed sd r hx he hk =
       let q = node.SameException x c in
@@ -298,7 +299,7 @@ module _ {p : Bare} {t : Typing} {m : Memory} {sig : List Entry} (ready : Ready 
       let full = sig ++ more in
       let group = group_env p (length m.store) bs in
       let all = group ++ env in
-      let scheme = λ (h : TyVar → Tree) (agr : Agrees gens g h). group_scheme g h gens agr c inner full sig bs (length m.store) refl (sym (store_len p t sig sig m.store ready.store)) r.0 (λ n e. e) in
+      let scheme = λ (h : TyVar → Tree) (agr : Agrees t.names gens g h). group_scheme g h gens agr c inner full sig bs (length m.store) refl (sym (store_len p t sig sig m.store ready.store)) r.0 (λ n e. e) in
       let frees = union_over (λ b. free p.nodes b.right) bs in
       let own = without frees (names_of bs) in
       let rest = without (free p.nodes body) (names_of bs) in
@@ -306,6 +307,6 @@ module _ {p : Bare} {t : Typing} {m : Memory} {sig : List Entry} (ready : Ready 
       let blocks = closures_safe g gens full all bs (sorts_at p t ready.typing ready.bare.numbered ready.bare.sorts d (node.ValRec us bs) ed) (each c inner gens full group env g bs frees (λ h agr x v e. scheme h agr x v e) (group_has (length m.store) bs) (env_within p t full g own (union own rest) env (within_left own rest) env_full) refl r.0 (all_fresh c gens (fresh_group c inner bs r.0)) (λ z m. m)) in
       known ready (closures p all bs) blocks.0 (λ blocks. making_all m blocks (eval_in p body all k)) blocks.1
       (making_all_safe ready blocks.0 more (eval_in p body all k) blocks.2 (blocks.3 (length m.store))
-      (eval_ty full body (env_of p body all) k g hx (env_cut p t full g (free p.nodes body) (free p.nodes body) all (λ z m. m) (joined p t full g (names_of bs) rest (free p.nodes body) group env (scheme g (agrees_self gens g)) (group_has (length m.store) bs) (env_within p t full g rest (union own rest) env (within_right own rest) env_full) (λ z a b. within_rest (free p.nodes body) (names_of bs) z a b))) (accepts_up p t sig more k (TakesAll p t (one g (t.types body))) hk)))
+      (eval_ty full body (env_of p body all) k g hx (env_cut p t full g (free p.nodes body) (free p.nodes body) all (λ z m. m) (joined p t full g (names_of bs) rest (free p.nodes body) group env (scheme g (agrees_self t.names gens g he.0)) (group_has (length m.store) bs) (env_within p t full g rest (union own rest) env (within_right own rest) env_full) (λ z a b. within_rest (free p.nodes body) (names_of bs) z a b))) (accepts_up p t sig more k (TakesAll p t (one g (t.types body))) hk)))
   eval_dec_safe d body (node.NoException x) env k g ed sd r hx he hk = absurd r
   eval_dec_safe d body _ env k g ed sd r hx he hk = cc

@@ -5,8 +5,8 @@ use Rattle.smlc_base.specs.declared.primitive.Primitive.{Primitive}
 use Rattle.smlc_base.specs.declared.primitive.Primitive.TheVariants as prim
 use Rattle.sml_tree.specs.declared.bare.Bare.{Bare}
 use Rattle.sml_tree.specs.declared.bare.Lab.{Lab}
-use Rattle.sml_tree.specs.declared.bare.LibraryExn.{LibraryExn}
-use Rattle.sml_tree.specs.declared.bare.LibraryExn.TheVariants as exn
+use Rattle.smlc_base.specs.declared.exception.LibraryExn.{LibraryExn}
+use Rattle.smlc_base.specs.declared.exception.LibraryExn.TheVariants as exn
 use Rattle.sml_tree.specs.declared.bare.Node.TheVariants as node
 use Rattle.sml_tree.specs.declared.bare.Rule.{Rule}
 use Rattle.sml_tree.specs.Free.{free}
@@ -18,9 +18,10 @@ use Rattle.simulation.proofs.Lists.{get_below}
 use Rattle.sml_def.specs.Maybe.{or_else}
 use Rattle.sml_def.specs.State.{Value, Number, Letter, Nothing, Tag, Constant, Builtin, Maker, RefMaker, Library, At, Env, Address, Block, Tuple, Applied, Text, Cell, ExnName, Packet, Closure}
 use Rattle.sml_def.specs.Match.{bytes_of, text_block, fields_of, tuple_block, packet_block, block_of}
-use Rattle.sml_def.specs.Step.{exn_name, name_of, spelled, exn_text}
+use Rattle.sml_def.specs.Step.{exn_name, name_of, spelled}
+use Rattle.smlc_base.specs.Exceptions.{exn_text}
 use Rattle.sml_sound.proofs.Lists.{get_lt, some_eq}
-use Rattle.sml_sound.specs.TypedStates.{Family, InFamily, Entry, Holds, Names, EntryTy, HasTy, HaveTys, IsName, IsCon, data_ty, Making, IsMaking, EnvTy, IsTuple, IsApplied, BlockTy, StoreTy}
+use Rattle.sml_sound.specs.TypedStates.{KeepsMarks, Family, InFamily, Entry, Holds, Names, EntryTy, HasTy, HaveTys, IsName, IsCon, data_ty, Making, IsMaking, EnvTy, IsTuple, IsApplied, BlockTy, StoreTy}
 use Rattle.sml_sound.proofs.Families.{parts_same}
 use Rattle.sml_sound.proofs.Tables.{library_has, library_con, applied_arg}
 use Rattle.sml_sound.proofs.Grow.{store_get}
@@ -41,7 +42,7 @@ module _ (p : Bare) (t : Typing) (typing : IsTyping p t) (sig : List Entry) (bs 
     a_nothing : v ≡ Nothing → u ≡ unit_ty → View v u
     a_tag : (k n : ℕ) (ps : List TyVar) (g : TyVar → Tree) → v ≡ Tag k → IsCon p t n k ps None → u ≡ inst g (data_ty p t n ps) → View v u
     a_constant : (c : ℕ) → v ≡ Constant c → c < length p.texts → u ≡ string_ty → View v u
-    a_primitive : (f : Primitive) (g : TyVar → Tree) (a b : Tree) → v ≡ Builtin f → u ≡ inst g (primitive_poly f).body → u ≡ arrow a b → View v u
+    a_primitive : (f : Primitive) (g : TyVar → Tree) (a b : Tree) → v ≡ Builtin f → KeepsMarks t.names g → u ≡ inst g (primitive_poly f).body → u ≡ arrow a b → View v u
     an_input : v ≡ Builtin prim.StdIn → u ≡ instream_ty → View v u
     a_maker : (k : ℕ) (m : Making p t) (g : TyVar → Tree) → v ≡ Maker k → IsMaking p t k m → u ≡ inst g (arrow m.arg (data_ty p t m.name m.params)) → View v u
     a_ref_maker : (a : Tree) → v ≡ RefMaker → u ≡ arrow a (ref_ty a) → View v u
@@ -49,13 +50,13 @@ module _ (p : Bare) (t : Typing) (typing : IsTyping p t) (sig : List Entry) (bs 
     a_tuple : (a : Address) (vs : List Value) → v ≡ At a → slice_get bs a ≡ Some (Tuple vs) → IsTuple p t sig vs u → View v u
     an_applied : (a : Address) (k : ℕ) (w : Value) → v ≡ At a → slice_get bs a ≡ Some (Applied k w) → IsApplied p t sig k w u → View v u
     a_text : (a : Address) (bytes : List ℕ) → v ≡ At a → slice_get bs a ≡ Some (Text bytes) → u ≡ string_ty → View v u
-    a_cell : (a : Address) (w : Value) (b : Tree) (f : Family) → v ≡ At a → slice_get bs a ≡ Some (Cell w) → slice_get sig a ≡ Some (Holds f) → ((u : Tree) → InFamily f u → u ≡ ref_ty b) → HasTy p t sig w b → u ≡ ref_ty b → View v u
+    a_cell : (a : Address) (w : Value) (b : Tree) (f : Family) → v ≡ At a → slice_get bs a ≡ Some (Cell w) → slice_get sig a ≡ Some (Holds f) → ((u : Tree) → InFamily t.names f u → u ≡ ref_ty b) → HasTy p t sig w b → u ≡ ref_ty b → View v u
     a_packet : (a : Address) (x w : Value) (b : Tree) → v ≡ At a → slice_get bs a ≡ Some (Packet x w) → IsName p t sig x (arrow b exn_ty) → HasTy p t sig w b → u ≡ exn_ty → View v u
     a_closure : (a : Address) (i : ℕ) (rules : List Rule) (env : Env) (g : TyVar → Tree) (b c : Tree) → v ≡ At a → slice_get bs a ≡ Some (Closure i rules env) → slice_get p.nodes i ≡ Some (node.Fn rules) → u ≡ inst g (t.types i) → u ≡ arrow b c → EnvTy p t sig g (free p.nodes i) env → View v u
 
-  view_primitive : (f : Primitive) (g : TyVar → Tree) (u : Tree) → u ≡ inst g (primitive_poly f).body → ((a : Tree) × (b : Tree) × (inst g (primitive_poly f).body ≡ arrow a b)) ⊎ (f ≡ prim.StdIn) → View (Builtin f) u
-  view_primitive f g u e (inl h) = a_primitive f g h.0 h.1 refl e (e ∙ h.2)
-  view_primitive f g u e (inr h) = an_input (ap Builtin h) (e ∙ ap (λ f. inst g (primitive_poly f).body) h)
+  view_primitive : (f : Primitive) (g : TyVar → Tree) (u : Tree) → KeepsMarks t.names g → u ≡ inst g (primitive_poly f).body → ((a : Tree) × (b : Tree) × (inst g (primitive_poly f).body ≡ arrow a b)) ⊎ (f ≡ prim.StdIn) → View (Builtin f) u
+  view_primitive f g u k e (inl h) = a_primitive f g h.0 h.1 refl k e (e ∙ h.2)
+  view_primitive f g u k e (inr h) = an_input (ap Builtin h) (e ∙ ap (λ f. inst g (primitive_poly f).body) h)
 
   view_library : (e : LibraryExn) (u : Tree) → u ≡ library_exn e → (library_exn e ≡ exn_ty) ⊎ (library_exn e ≡ arrow string_ty exn_ty) → View (Library e) u
   view_library e u h (inl q) = a_name h (inl (h ∙ q)) (exn_text e, refl) refl
@@ -66,7 +67,7 @@ module _ (p : Bare) (t : Typing) (typing : IsTyping p t) (sig : List Entry) (bs 
       let n = get_below p.names x h.0 in a_name g h.1 (n.0, ap (spelled p) e ∙ n.1) (ap packet_block e)
   view_name a u g _ e h = absurd h
 
-  view_held : (a : Address) (f : Family) (u : Tree) → slice_get sig a ≡ Some (Holds f) → InFamily f u → (b : Block) → slice_get bs a ≡ Some b → BlockTy p t sig b (Holds f) → View (At a) u
+  view_held : (a : Address) (f : Family) (u : Tree) → slice_get sig a ≡ Some (Holds f) → InFamily t.names f u → (b : Block) → slice_get bs a ≡ Some b → BlockTy p t sig b (Holds f) → View (At a) u
   view_held a f u g i (Tuple vs) e h = a_tuple a vs refl e (h u i)
   view_held a f u g i (Applied k w) e h = an_applied a k w refl e (h u i)
   view_held a f u g i (Text bytes) e h = a_text a bytes refl e (h u i)
@@ -90,7 +91,7 @@ module _ (p : Bare) (t : Typing) (typing : IsTyping p t) (sig : List Entry) (bs 
   view Nothing u h = a_nothing refl h
   view (Tag k) u h = a_tag k h.0 h.1 h.2 refl h.3 h.4
   view (Constant c) u h = a_constant c refl h.1 h.0
-  view (Builtin f) u h = view_primitive f h.0 u h.1 (prim_ty f h.0)
+  view (Builtin f) u h = view_primitive f h.0 u h.1 h.2 (prim_ty f h.0)
   view (Maker k) u h = a_maker k h.0 h.1 refl h.2 h.3
   view RefMaker u h = a_ref_maker h.0 refl h.1
   view (Library e) u h = view_library e u h (exn_con e)
@@ -137,7 +138,7 @@ module _ (p : Bare) (t : Typing) (typing : IsTyping p t) (sig : List Entry) (bs 
   an_int_by v u (a_nothing ev e) d = absurd (let x = sym d ∙ e in cc)
   an_int_by v u (a_tag k n ps g ev c e) d = absurd (no_con 0 _ refl refl n k ps None g NoParts c (sym d ∙ e))
   an_int_by v u (a_constant c ev lt e) d = absurd (let x = sym d ∙ e in cc)
-  an_int_by v u (a_primitive f g a b ev ei e) d = absurd (let x = sym d ∙ e in cc)
+  an_int_by v u (a_primitive f g a b ev kg ei e) d = absurd (let x = sym d ∙ e in cc)
   an_int_by v u (an_input ev e) d = absurd (let x = sym d ∙ e in cc)
   an_int_by v u (a_maker k m g ev mk e) d = absurd (let x = sym d ∙ e in cc)
   an_int_by v u (a_ref_maker a ev e) d = absurd (let x = sym d ∙ e in cc)
@@ -159,7 +160,7 @@ module _ (p : Bare) (t : Typing) (typing : IsTyping p t) (sig : List Entry) (bs 
   a_char_by v u (a_nothing ev e) d = absurd (let x = sym d ∙ e in cc)
   a_char_by v u (a_tag k n ps g ev c e) d = absurd (no_con 1 _ refl refl n k ps None g NoParts c (sym d ∙ e))
   a_char_by v u (a_constant c ev lt e) d = absurd (let x = sym d ∙ e in cc)
-  a_char_by v u (a_primitive f g a b ev ei e) d = absurd (let x = sym d ∙ e in cc)
+  a_char_by v u (a_primitive f g a b ev kg ei e) d = absurd (let x = sym d ∙ e in cc)
   a_char_by v u (an_input ev e) d = absurd (let x = sym d ∙ e in cc)
   a_char_by v u (a_maker k m g ev mk e) d = absurd (let x = sym d ∙ e in cc)
   a_char_by v u (a_ref_maker a ev e) d = absurd (let x = sym d ∙ e in cc)
@@ -181,7 +182,7 @@ module _ (p : Bare) (t : Typing) (typing : IsTyping p t) (sig : List Entry) (bs 
   a_string_by v u (a_nothing ev e) d = absurd (let x = sym d ∙ e in cc)
   a_string_by v u (a_tag k n ps g ev c e) d = absurd (no_con 2 _ refl refl n k ps None g NoParts c (sym d ∙ e))
   a_string_by v u (a_constant c ev lt e) d = let b = get_below p.texts c lt in (b.0, ap (bytes_of p bs) ev ∙ b.1)
-  a_string_by v u (a_primitive f g a b ev ei e) d = absurd (let x = sym d ∙ e in cc)
+  a_string_by v u (a_primitive f g a b ev kg ei e) d = absurd (let x = sym d ∙ e in cc)
   a_string_by v u (an_input ev e) d = absurd (let x = sym d ∙ e in cc)
   a_string_by v u (a_maker k m g ev mk e) d = absurd (let x = sym d ∙ e in cc)
   a_string_by v u (a_ref_maker a ev e) d = absurd (let x = sym d ∙ e in cc)
@@ -203,7 +204,7 @@ module _ (p : Bare) (t : Typing) (typing : IsTyping p t) (sig : List Entry) (bs 
   an_exn_by v u (a_nothing ev e) d = absurd (let x = sym d ∙ e in cc)
   an_exn_by v u (a_tag k n ps g ev c e) d = absurd (no_con 3 _ refl refl n k ps None g NoParts c (sym d ∙ e))
   an_exn_by v u (a_constant c ev lt e) d = absurd (let x = sym d ∙ e in cc)
-  an_exn_by v u (a_primitive f g a b ev ei e) d = absurd (let x = sym d ∙ e in cc)
+  an_exn_by v u (a_primitive f g a b ev kg ei e) d = absurd (let x = sym d ∙ e in cc)
   an_exn_by v u (an_input ev e) d = absurd (let x = sym d ∙ e in cc)
   an_exn_by v u (a_maker k m g ev mk e) d = absurd (let x = sym d ∙ e in cc)
   an_exn_by v u (a_ref_maker a ev e) d = absurd (let x = sym d ∙ e in cc)
@@ -225,7 +226,7 @@ module _ (p : Bare) (t : Typing) (typing : IsTyping p t) (sig : List Entry) (bs 
   a_stream_by v u (a_nothing ev e) d = absurd (let x = sym d ∙ e in cc)
   a_stream_by v u (a_tag k n ps g ev c e) d = absurd (no_con 9 _ refl refl n k ps None g NoParts c (sym d ∙ e))
   a_stream_by v u (a_constant c ev lt e) d = absurd (let x = sym d ∙ e in cc)
-  a_stream_by v u (a_primitive f g a b ev ei e) d = absurd (let x = sym d ∙ e in cc)
+  a_stream_by v u (a_primitive f g a b ev kg ei e) d = absurd (let x = sym d ∙ e in cc)
   a_stream_by v u (an_input ev e) d = ev
   a_stream_by v u (a_maker k m g ev mk e) d = absurd (let x = sym d ∙ e in cc)
   a_stream_by v u (a_ref_maker a ev e) d = absurd (let x = sym d ∙ e in cc)
@@ -251,7 +252,7 @@ module _ (p : Bare) (t : Typing) (typing : IsTyping p t) (sig : List Entry) (bs 
   a_record_by labs us v u (a_nothing ev e) d = ([], ap (fields_of bs) ev, no_fields us (let x = sym d ∙ e in cc))
   a_record_by labs us v u (a_tag k n ps g ev c e) d = absurd (let x = sym d ∙ e in cc)
   a_record_by labs us v u (a_constant c ev lt e) d = absurd (let x = sym d ∙ e in cc)
-  a_record_by labs us v u (a_primitive f g a b ev ei e) d = absurd (let x = sym d ∙ e in cc)
+  a_record_by labs us v u (a_primitive f g a b ev kg ei e) d = absurd (let x = sym d ∙ e in cc)
   a_record_by labs us v u (an_input ev e) d = absurd (let x = sym d ∙ e in cc)
   a_record_by labs us v u (a_maker k m g ev mk e) d = absurd (let x = sym d ∙ e in cc)
   a_record_by labs us v u (a_ref_maker a ev e) d = absurd (let x = sym d ∙ e in cc)
@@ -267,13 +268,13 @@ module _ (p : Bare) (t : Typing) (typing : IsTyping p t) (sig : List Entry) (bs 
   pub a_record : (labs : List Lab) (us : List Tree) (v : Value) → HasTy p t sig v (App (FieldsHead labs) (parts us)) → (vs : List Value) × (fields_of bs v ≡ Some vs) × HaveTys p t sig vs us
   a_record labs us v h = a_record_by labs us v (App (FieldsHead labs) (parts us)) (view v (App (FieldsHead labs) (parts us)) h) refl
 
-  a_ref_by : (w : Tree) (v : Value) (u : Tree) → View v u → u ≡ ref_ty w → (a : Address) × (x : Value) × (f : Family) × (v ≡ At a) × (slice_get bs a ≡ Some (Cell x)) × (slice_get sig a ≡ Some (Holds f)) × HasTy p t sig x w × ((u : Tree) → InFamily f u → u ≡ ref_ty w)
+  a_ref_by : (w : Tree) (v : Value) (u : Tree) → View v u → u ≡ ref_ty w → (a : Address) × (x : Value) × (f : Family) × (v ≡ At a) × (slice_get bs a ≡ Some (Cell x)) × (slice_get sig a ≡ Some (Holds f)) × HasTy p t sig x w × ((u : Tree) → InFamily t.names f u → u ≡ ref_ty w)
   a_ref_by w v u (a_number z ev e) d = absurd (let x = sym d ∙ e in cc)
   a_ref_by w v u (a_letter c ev e) d = absurd (let x = sym d ∙ e in cc)
   a_ref_by w v u (a_nothing ev e) d = absurd (let x = sym d ∙ e in cc)
   a_ref_by w v u (a_tag k n ps g ev c e) d = absurd (no_ref n k ps g _ c (sym d ∙ e))
   a_ref_by w v u (a_constant c ev lt e) d = absurd (let x = sym d ∙ e in cc)
-  a_ref_by w v u (a_primitive f g a b ev ei e) d = absurd (let x = sym d ∙ e in cc)
+  a_ref_by w v u (a_primitive f g a b ev kg ei e) d = absurd (let x = sym d ∙ e in cc)
   a_ref_by w v u (an_input ev e) d = absurd (let x = sym d ∙ e in cc)
   a_ref_by w v u (a_maker k m g ev mk e) d = absurd (let x = sym d ∙ e in cc)
   a_ref_by w v u (a_ref_maker a ev e) d = absurd (let x = sym d ∙ e in cc)
@@ -286,7 +287,7 @@ module _ (p : Bare) (t : Typing) (typing : IsTyping p t) (sig : List Entry) (bs 
   a_ref_by w v u (a_closure a i rules env g b c ev eb en ei e k) d = absurd (let x = sym d ∙ e in cc)
 
   -- a reference is a cell's address
-  pub a_ref : (w : Tree) (v : Value) → HasTy p t sig v (ref_ty w) → (a : Address) × (x : Value) × (f : Family) × (v ≡ At a) × (slice_get bs a ≡ Some (Cell x)) × (slice_get sig a ≡ Some (Holds f)) × HasTy p t sig x w × ((u : Tree) → InFamily f u → u ≡ ref_ty w)
+  pub a_ref : (w : Tree) (v : Value) → HasTy p t sig v (ref_ty w) → (a : Address) × (x : Value) × (f : Family) × (v ≡ At a) × (slice_get bs a ≡ Some (Cell x)) × (slice_get sig a ≡ Some (Holds f)) × HasTy p t sig x w × ((u : Tree) → InFamily t.names f u → u ≡ ref_ty w)
   a_ref w v h = a_ref_by w v (ref_ty w) (view v (ref_ty w) h) refl
 
   cons_arg : (k : ℕ) (c : ConType) (a : Tree) → slice_get (record { text = codes "nil"; arg = None } ∷ record { text = codes "::"; arg = Some (tuple (Variable typing.library.param ∷ list_ty (Variable typing.library.param) ∷ [])) } ∷ []) k ≡ Some c → c.arg ≡ Some a → k ≡ 1
@@ -309,7 +310,7 @@ module _ (p : Bare) (t : Typing) (typing : IsTyping p t) (sig : List Entry) (bs 
   a_list_by x v u (a_nothing ev e) d = absurd (let x = sym d ∙ e in cc)
   a_list_by x v u (a_tag k n ps g ev c e) d = inl (k, ev)
   a_list_by x v u (a_constant c ev lt e) d = absurd (let x = sym d ∙ e in cc)
-  a_list_by x v u (a_primitive f g a b ev ei e) d = absurd (let x = sym d ∙ e in cc)
+  a_list_by x v u (a_primitive f g a b ev kg ei e) d = absurd (let x = sym d ∙ e in cc)
   a_list_by x v u (an_input ev e) d = absurd (let x = sym d ∙ e in cc)
   a_list_by x v u (a_maker k m g ev mk e) d = absurd (let x = sym d ∙ e in cc)
   a_list_by x v u (a_ref_maker a ev e) d = absurd (let x = sym d ∙ e in cc)

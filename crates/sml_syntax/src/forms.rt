@@ -4,7 +4,7 @@ use sml_tree::{Status, TreeNode};
 use smlc_base::Name;
 
 /// How an integer constant is written.
-#[derive(Clone, Copy, Debug, PartialEq, Eq)]
+#[derive(Clone, Copy)]
 pub enum Shape {
     /// One decimal digit: it may stand in a fixity directive, and is a label where it isn't 0.
     Digit(u8),
@@ -15,7 +15,7 @@ pub enum Shape {
 }
 
 /// A token as the grammar sees it.
-#[derive(Clone, Copy, Debug, PartialEq, Eq)]
+#[derive(Clone, Copy)]
 pub enum Terminal {
     /// An identifier, and whether it is `*`.
     Id(Name, bool),
@@ -79,21 +79,21 @@ pub enum Terminal {
 }
 
 /// A fixity directive for one identifier.
-#[derive(Clone, Copy, Debug, PartialEq, Eq)]
+#[derive(Clone, Copy)]
 pub struct Directive {
     pub name: Name,
     pub status: Status,
 }
 
 /// What stands at the root of an infix phrase: none, or an operator with its precedence and whether it associates to the right.
-#[derive(Clone, Copy, Debug, PartialEq, Eq)]
+#[derive(Clone, Copy)]
 pub enum Root {
     Bare,
     Operator(u8, bool),
 }
 
 /// A terminal under the fixity in force.
-#[derive(Clone, Copy, Debug, PartialEq, Eq)]
+#[derive(Clone, Copy)]
 pub enum Look {
     /// An identifier without infix status, and whether it is `*`.
     Plain(Name, bool),
@@ -104,7 +104,7 @@ pub enum Look {
 }
 
 /// An infix operator of an expression.
-#[derive(Clone, Copy, Debug, PartialEq, Eq)]
+#[derive(Clone, Copy)]
 pub struct InfixVid {
     pub vid: TreeNode,
     pub level: u8,
@@ -112,7 +112,7 @@ pub struct InfixVid {
 }
 
 /// A node of the tree, with where its first token stands.
-#[derive(Clone, Copy, Debug, PartialEq, Eq)]
+#[derive(Clone, Copy)]
 pub enum Made {
     /// A node that begins with its first part.
     Inner(TreeNode),

@@ -4,7 +4,7 @@ use crate::forms::{Made, Root};
 use sml_tree::Status;
 
 /// What the machine still wants.
-#[derive(Clone, Copy, Debug, PartialEq, Eq)]
+#[derive(Clone, Copy)]
 pub enum Symbol {
     /// A node that is made now.
     Emit(Made),
@@ -135,7 +135,7 @@ pub enum Symbol {
 }
 
 /// Symbols, the first on top.
-#[derive(Clone, Copy, Debug, PartialEq, Eq)]
+#[derive(Clone, Copy)]
 pub enum Push {
     P0,
     P1(Symbol),
@@ -148,7 +148,7 @@ pub enum Push {
 }
 
 /// What a symbol does at a terminal: symbols stand in its place, and the terminal is kept or taken.
-#[derive(Clone, Copy, Debug, PartialEq, Eq)]
+#[derive(Clone, Copy)]
 pub enum Move {
     /// Nothing goes on with the terminal.
     Refuse,

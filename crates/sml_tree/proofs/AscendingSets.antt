@@ -25,7 +25,7 @@ merge_ascending lo x rest le r (y ∷ ys) h = go (nat_lt x y) (nat_eq x y) refl 
         let past : suc y ≤ x = (let a = ltb-false x y e in let b : x ≡ y → ⊥ = eqb-false x y f in omega arith) in
         (h.0, later past)
 
-union_ascending : (lo : ℕ) (xs ys : List ℕ) → IsAscending lo xs → IsAscending lo ys → IsAscending lo (union xs ys)
+pub union_ascending : (lo : ℕ) (xs ys : List ℕ) → IsAscending lo xs → IsAscending lo ys → IsAscending lo (union xs ys)
 union_ascending lo [] ys h g = g
 union_ascending lo (x ∷ xs) ys h g =
     merge_ascending lo x (union xs) h.0 (λ zs k. union_ascending (suc x) xs zs h.1 k) ys g
@@ -34,7 +34,7 @@ ascending_down : (lo up : ℕ) (xs : List ℕ) → lo ≤ up → IsAscending up 
 ascending_down lo up [] le h = tt
 ascending_down lo up (x ∷ xs) le h = (omega (arith, h.0), h.1)
 
-filter_ascending : (f : ℕ → Bool) (lo : ℕ) (xs : List ℕ) → IsAscending lo xs → IsAscending lo (filter f xs)
+pub filter_ascending : (f : ℕ → Bool) (lo : ℕ) (xs : List ℕ) → IsAscending lo xs → IsAscending lo (filter f xs)
 filter_ascending f lo [] h = tt
 filter_ascending f lo (x ∷ xs) h = go (f x) (filter_ascending f (suc x) xs h.1)
   where
@@ -42,10 +42,10 @@ filter_ascending f lo (x ∷ xs) h = go (f x) (filter_ascending f (suc x) xs h.1
     go true g = (h.0, g)
     go false g = ascending_down lo (suc x) (filter f xs) (omega (arith, h.0)) g
 
-one_ascending : (x : ℕ) → IsAscending 0 (x ∷ [])
+pub one_ascending : (x : ℕ) → IsAscending 0 (x ∷ [])
 one_ascending x = (omega arith, tt)
 
-over_ascending : {A : Type 0} (F : A → List ℕ) → ((x : A) → IsAscending 0 (F x)) → (xs : List A) → IsAscending 0 (union_over F xs)
+pub over_ascending : {A : Type 0} (F : A → List ℕ) → ((x : A) → IsAscending 0 (F x)) → (xs : List A) → IsAscending 0 (union_over F xs)
 over_ascending F h [] = tt
 over_ascending F h (x ∷ xs) = union_ascending 0 (F x) (union_over F xs) (h x) (over_ascending F h xs)
 

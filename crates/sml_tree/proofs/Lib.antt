@@ -11,3 +11,4 @@ pub mod Ascends
 pub mod EachNode
 pub mod AscendingSets
 pub mod Held
+pub mod Consecutive

@@ -14,7 +14,7 @@ use Rattle.sml_tree.specs.declared.bare.Field.{Field}
 use Rattle.sml_tree.specs.declared.bare.Lab.{Lab}
 use Rattle.sml_tree.specs.declared.bare.Lab.TheVariants as lab
 use Rattle.sml_tree.specs.declared.bare.Con.TheVariants as con
-use Rattle.sml_tree.specs.declared.bare.LibraryExn.TheVariants as exn
+use Rattle.smlc_base.specs.declared.exception.LibraryExn.TheVariants as exn
 
 abbrev pub user : Place
 user = record { file = 1; line = 1; col = 1 }

@@ -1,15 +1,16 @@
 -- Points and widths of small programs, as an independent model computes them.
-use Rattle.std.proofs.Common.{◌≡◌, ℕ, Bool, List, [], ◌∷◌, Some, None, length, refl, subst, arith}
+use Rattle.std.proofs.Common.{◌≡◌, ℕ, zero, suc, ◌<◌, Bool, true, List, [], ◌∷◌, Some, None, length, refl, subst, arith}
 use Rattle.smlc_base.specs.declared.place.Place.{Place}
 use Rattle.sml_tree.specs.declared.bare.Node.{Node}
 use Rattle.sml_tree.specs.declared.bare.TypeExp.{TypeExp}
-use Rattle.std.specs.Prelude.{map}
+use Rattle.std.specs.Prelude.{map, flat_map}
 use Rattle.smlc_base.specs.declared.point.PointKind.TheVariants as kind
 use Rattle.sml_tree.specs.Points.{point, spot, spots}
 use Rattle.sml_tree.specs.Width.{width}
 use Rattle.sml_tree.specs.declared.bare.Bare.{Bare}
 use Rattle.sml_tree.specs.BareParts.{IsNumbered}
-use Rattle.sml_tree.specs.IsBare.{IsBare}
+use Rattle.sml_tree.specs.IsBare.{IsBare, names_at}
+use Rattle.sml_tree.specs.Sets.{has}
 use Rattle.sml_tree.proofs.EachNode.{numbered_by_list, preorder_by_list}
 use Rattle.sml_tree.proofs.Programs.{user, hello, handled, caught, local_exception, written_order, bind_first, lists, packets, lines, ints, texts, refs, raising}
 
@@ -107,6 +108,8 @@ hello_is_bare = record {
   types = λ i t e. cc;
   bound = refl;
   once = tt;
+  somewhere = λ x l. absurd (omega (arith, l));
+  declared = tt;
   nest = refl;
   end = refl;
   decs = ((omega arith, tt), (refl, tt));
@@ -119,6 +122,12 @@ hello_is_bare = record {
 raising_numbered : IsNumbered raising.nodes
 raising_numbered =
     numbered_by_list raising.nodes (((omega arith, omega arith), ((omega arith, omega arith), tt)), (tt, (((omega arith, omega arith), ((omega arith, omega arith), tt)), (((omega arith, omega arith), ((omega arith, omega arith), tt)), (tt, (((omega arith, omega arith), ((omega arith, omega arith), tt)), (tt, (((omega arith, omega arith), ((omega arith, omega arith), ((omega arith, omega arith), tt))), (((omega arith, omega arith), tt), (tt, (tt, (tt, (tt, tt)))))))))))))
+
+three_bound : (x : ℕ) → x < 3 → has (flat_map names_at raising.nodes) x ≡ true
+three_bound zero l = refl
+three_bound (suc zero) l = refl
+three_bound (suc (suc zero)) l = refl
+three_bound (suc (suc (suc x))) l = absurd (omega (arith, l))
 
 -- with any three names
 abbrev raising_tree : List (List ℕ) → Bare
@@ -135,6 +144,8 @@ raising_is_bare names e = record {
   types = λ i t e. cc;
   bound = refl;
   once = (refl, (refl, (refl, tt)));
+  somewhere = λ x l. three_bound x (omega (arith, l, e));
+  declared = tt;
   nest = refl;
   end = refl;
   decs = ((omega arith, (omega arith, tt)), (refl, (refl, tt)));

@@ -200,7 +200,7 @@ module _ (p : Bare) where
   Stands (node.ValRec tyvars bindings) =
       AllByRecursion (λ v. v < length p.tyvars) tyvars × AllByRecursion (λ b. b.name.0 < length p.names) bindings
   Stands (node.Type bindings) = AllByRecursion (λ b. b.ty < length p.types) bindings
-  Stands (node.Datatype bindings) = AllByRecursion (λ d. AllByRecursion (λ c. OptionStands c.arg) d.cons) bindings
+  Stands (node.Datatype bindings) = AllByRecursion (λ d. AllByRecursion (λ c. OptionStands c.arg) d.cons × (length d.cons ≤ 2 ^ 20)) bindings
   Stands (node.Exception x ty) = (x.0 < length p.names) × OptionStands ty
   Stands (node.SameException x c) = (x.0 < length p.names) × ConStands c
   Stands (node.NoException x) = x.0 < length p.names
@@ -216,6 +216,16 @@ names_at (node.Exception x ty) = x.0 ∷ []
 names_at (node.SameException x c) = x.0 ∷ []
 names_at (node.NoException x) = x.0 ∷ []
 names_at _ = []
+
+-- the type names that a node declares
+abbrev pub type_names_at : Node → List ℕ
+type_names_at (node.Datatype bindings) = map (λ d. d.type_name) bindings
+type_names_at _ = []
+
+-- the numbers from one on, one behind the other
+abbrev pub Consecutive : ℕ → List ℕ → Type 0
+Consecutive from [] = Unit {0}
+Consecutive from (x ∷ xs) = (x ≡ from) × Consecutive (suc from) xs
 
 -- ---- The program: one nest of `Let` whose innermost part is the end
 
@@ -263,6 +273,10 @@ pub record IsBare (p : Bare) : Type 0 where
   -- each name that is cited is bound around it, and bound once
   pub bound : free p.nodes 0 ≡ []
   pub once : IsDistinct (flat_map names_at p.nodes)
+  -- and each name is bound somewhere
+  pub somewhere : (x : ℕ) → x < length p.names → has (flat_map names_at p.nodes) x ≡ true
+  -- type names are numbered in the order of their declarations, behind the ten of the library
+  pub declared : Consecutive 10 (flat_map type_names_at p.nodes)
   -- the program ends once
   pub nest : from_parts false nest_of p.nodes 0 ≡ true
   pub end : count_by is_finish p.nodes ≡ 1

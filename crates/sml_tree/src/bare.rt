@@ -1,23 +1,6 @@
 //! The bare tree: flat numbered nodes, a node's parts numbered above it.
 
-use smlc_base::{Bytes, Name, Place, Primitive, Row};
-
-/// The exceptions that exist from the start.
-#[derive(Clone, Copy, PartialEq, Eq, Debug)]
-pub enum LibraryExn {
-    MatchExn,
-    BindExn,
-    DivExn,
-    OverflowExn,
-    ChrExn,
-    SubscriptExn,
-    SizeExn,
-    EmptyExn,
-    OptionExn,
-    DomainExn,
-    /// `Fail of string`, the one with an argument.
-    FailExn,
-}
+use smlc_base::{Bytes, LibraryExn, Name, Place, Primitive, Row};
 
 /// A constructor.
 #[derive(Clone, Copy, PartialEq, Eq, Debug)]
@@ -45,7 +28,7 @@ pub enum Lab {
 }
 
 /// A field of a record or of a record pattern, in written order: its label, its place in the order of the record's labels, and its node.
-#[derive(Debug, Drop)]
+#[derive(Drop)]
 pub struct Field {
     pub lab: Lab,
     pub slot: u32,
@@ -53,28 +36,28 @@ pub struct Field {
 }
 
 /// A rule of a match.
-#[derive(Clone, Copy, PartialEq, Eq, Debug)]
+#[derive(Clone, Copy)]
 pub struct Rule {
     pub pat: u32,
     pub body: u32,
 }
 
 /// A binding of a value declaration.
-#[derive(Clone, Copy, PartialEq, Eq, Debug)]
+#[derive(Clone, Copy)]
 pub struct Binding {
     pub pat: u32,
     pub right: u32,
 }
 
 /// A binding of a recursive value declaration. Its right side is a `Fn` node, perhaps under `Typed` nodes.
-#[derive(Clone, Copy, PartialEq, Eq, Debug)]
+#[derive(Clone, Copy)]
 pub struct RecBinding {
     pub name: Name,
     pub right: u32,
 }
 
 /// A field of a record type, in written order: its label, its place in the order of the record's labels, and its type.
-#[derive(Debug, Drop)]
+#[derive(Drop)]
 pub struct TypeField {
     pub lab: Lab,
     pub slot: u32,
@@ -82,7 +65,7 @@ pub struct TypeField {
 }
 
 /// A type as it is written. Its parts are types of smaller numbers.
-#[derive(Debug, Drop)]
+#[derive(Drop)]
 pub enum TypeExp {
     /// The type variable of a number.
     Var(u32),
@@ -97,7 +80,7 @@ pub enum TypeExp {
 }
 
 /// A binding of a `type` declaration: its number, the numbers of its type variables, and its type.
-#[derive(Debug, Drop)]
+#[derive(Drop)]
 pub struct TypeBinding {
     pub number: u32,
     pub params: Row<u32>,
@@ -105,14 +88,14 @@ pub struct TypeBinding {
 }
 
 /// A constructor of a datatype, with the type of its argument.
-#[derive(Debug, Drop)]
+#[derive(Drop)]
 pub struct ConBinding {
     pub text: Bytes,
     pub arg: Option<u32>,
 }
 
 /// A binding of a `datatype` declaration: the number of its type name, its spelling, the numbers of its type variables, and its constructors.
-#[derive(Debug, Drop)]
+#[derive(Drop)]
 pub struct DatBinding {
     pub type_name: u32,
     pub text: Bytes,
@@ -121,7 +104,7 @@ pub struct DatBinding {
 }
 
 /// A node. A part of a node is named by its number.
-#[derive(Debug, Drop)]
+#[derive(Drop)]
 pub enum Node {
     Int(i64),
     Char(u8),
@@ -170,7 +153,7 @@ pub enum Node {
 }
 
 /// A bare tree. Node 0 is its root: one nest of `Let` whose innermost part is `Finish`. Nodes are numbered in preorder.
-#[derive(Debug, Drop)]
+#[derive(Drop)]
 pub struct Bare {
     pub nodes: Row<Node>,
     /// The place of each node: that of the first token of the phrase that it comes from.

@@ -236,7 +236,7 @@ fn empty_rows(alloc: Global, n: usize) -> Result<Vec<Row<u32>>, NoMemory>
 }
 
 /// The variables that each node binds and those that are free in it, as ascending sets of the numbers of names.
-#[derive(Debug, Drop)]
+#[derive(Drop)]
 pub struct Variables {
     pub bound: Vec<Row<u32>>,
     pub free: Vec<Row<u32>>,

@@ -19,7 +19,7 @@ use std::alloc::Global;
 
 /// A point, how many values its closure or frame holds, and the point of the nearest frame around it in the same
 /// function body. A frame of a `handle` is named by its `Caught`.
-#[derive(Clone, Copy, PartialEq, Eq, Debug)]
+#[derive(Clone, Copy)]
 pub struct Spot {
     pub point: Point,
     pub held: usize,
@@ -27,7 +27,7 @@ pub struct Spot {
 }
 
 /// How a node stands in the node that it is a part of, with the nearest frame around it in the same function body.
-#[derive(Clone, Copy, PartialEq, Eq, Debug)]
+#[derive(Clone, Copy)]
 pub enum Context {
     /// A frame that holds so many values awaits its value.
     Awaited(usize, Option<Point>),
@@ -38,7 +38,7 @@ pub enum Context {
 }
 
 /// A part of a node, and how it stands there.
-#[derive(Clone, Copy, PartialEq, Eq, Debug)]
+#[derive(Clone, Copy)]
 pub struct Part {
     pub node: u32,
     pub context: Context,

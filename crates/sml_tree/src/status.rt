@@ -1,7 +1,7 @@
 //! Infix status.
 
 /// What a fixity directive gives to an identifier.
-#[derive(Clone, Copy, Debug, PartialEq, Eq)]
+#[derive(Clone, Copy)]
 pub enum Status {
     Nonfix,
     /// The precedence, and whether it associates to the right.

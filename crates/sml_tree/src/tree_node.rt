@@ -9,7 +9,7 @@ use smlc_base::Name;
 /// A node of the parse tree. Its parts stand before it, each with its own parts, in the order of the text.
 ///
 /// A list of the grammar, as `exp {, exp}`, is its item where there is one, else the item and the rest of the list.
-#[derive(Clone, Copy, Debug, PartialEq, Eq)]
+#[derive(Clone, Copy)]
 pub enum TreeNode {
     /// `val [tyvars] valbind`: type variables, value bindings.
     Val,

@@ -19,7 +19,7 @@ use Rattle.sml_types.specs.declared.tables.TypeName.{TypeName}
 use Rattle.sml_types.specs.Tree.{Tree, Variable, size}
 use Rattle.sml_types.specs.Forms.{trees, tree}
 use Rattle.sml_types.specs.Poly.{Poly, poly, mono, is_in, Context, IsInstance, scheme_in}
-use Rattle.sml_types.specs.Library.{arrow, unit_ty, library_names, BeginsWithLibrary, library, name_types}
+use Rattle.sml_types.specs.Library.{arrow, unit_ty, library_names, library, name_types}
 use Rattle.sml_types.specs.NonExpansive.{AreNonExpansive, is_atomic, is_ref, plain_none, plain_atom, plain_record, plain_applied, plain_typed}
 use Rattle.sml_types.specs.Typing.{Typing, IsTypedNode, IsTyping}
 use Rattle.sml_types.proofs.TreeFacts.{inst_id, inst_same}

@@ -4,8 +4,8 @@ use Rattle.smlc_base.specs.declared.primitive.Primitive.{Primitive}
 use Rattle.smlc_base.specs.declared.primitive.Primitive.TheVariants as prim
 use Rattle.sml_tree.specs.declared.bare.Lab.{Lab}
 use Rattle.sml_tree.specs.declared.bare.Lab.TheVariants.{Num}
-use Rattle.sml_tree.specs.declared.bare.LibraryExn.{LibraryExn}
-use Rattle.sml_tree.specs.declared.bare.LibraryExn.TheVariants.{FailExn}
+use Rattle.smlc_base.specs.declared.exception.LibraryExn.{LibraryExn}
+use Rattle.smlc_base.specs.declared.exception.LibraryExn.TheVariants.{FailExn}
 use Rattle.sml_types.specs.declared.types.Ty.{Ty}
 use Rattle.sml_types.specs.declared.types.TyVar.{TyVar}
 use Rattle.sml_types.specs.declared.types.TyForm.{TyForm}

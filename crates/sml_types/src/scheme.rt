@@ -4,14 +4,14 @@ use crate::types::{Ty, TyVar};
 use smlc_base::{Name, Row};
 
 /// A type for all types of some variables.
-#[derive(Debug, Drop)]
+#[derive(Drop)]
 pub struct Scheme {
     pub vars: Row<TyVar>,
     pub body: Ty,
 }
 
 /// A name with its scheme.
-#[derive(Debug, Drop)]
+#[derive(Drop)]
 pub struct NameScheme {
     pub name: Name,
     pub scheme: Scheme,

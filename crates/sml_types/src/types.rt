@@ -23,14 +23,14 @@ pub struct TyVar {
 }
 
 /// A field of a record type.
-#[derive(Debug, Drop)]
+#[derive(Drop)]
 pub struct Field {
     pub lab: Lab,
     pub ty: Ty,
 }
 
 /// A form of a type: a variable, a record type with its fields in the order of labels, a function type, or the type name of a number in `Tables` at its arguments.
-#[derive(Debug, Drop)]
+#[derive(Drop)]
 pub enum TyForm {
     Var(TyVar),
     Fields(Row<Field>),

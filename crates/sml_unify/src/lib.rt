@@ -25,6 +25,3 @@ mod visit;
 pub use error::UnifyError;
 pub use resolve::{Rename, Resolved};
 pub use subst::{Subst, unify, unify_next};
-
-#[cfg(test)]
-mod tests;

@@ -14,14 +14,14 @@ use smlc_base::NoMemory;
 use std::alloc::Global;
 
 /// A type, and the form that it leads to through variables that are bound.
-#[derive(Clone, Copy, Debug, Drop)]
+#[derive(Clone, Copy, Drop)]
 pub struct Headed {
     pub ty: Ty,
     pub head: Ty,
 }
 
 /// To come to a type, or to note one whose parts were come to.
-#[derive(Clone, Copy, Debug, Drop)]
+#[derive(Clone, Copy, Drop)]
 pub enum Step {
     Reach(Ty),
     Note(Headed),

@@ -3,7 +3,7 @@
 use sml_types::Ty;
 
 /// Two types that are to be equal.
-#[derive(Clone, Copy, Debug, Drop)]
+#[derive(Clone, Copy, Drop)]
 pub struct Pair {
     pub left: Ty,
     pub right: Ty,

@@ -17,14 +17,14 @@ use smlc_base::NoMemory;
 use std::alloc::Global;
 
 /// A variable that stands in the place of that of another number.
-#[derive(Clone, Copy, PartialEq, Eq, Debug, Drop)]
+#[derive(Clone, Copy, Drop)]
 pub struct Rename {
     pub from: u32,
     pub to: TyVar,
 }
 
 /// A type whose forms have all their parts from number `from` on.
-#[derive(Clone, Copy, PartialEq, Eq, Debug, Drop)]
+#[derive(Clone, Copy, Drop)]
 pub struct Resolved {
     pub from: u32,
     pub ty: Ty,

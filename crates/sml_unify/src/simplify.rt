@@ -22,7 +22,7 @@ use sml_types::{Ty, TyForm};
 use std::alloc::Global;
 
 /// What the heads of a pair are: one variable, a variable to be bound, or two forms that are none.
-#[derive(Clone, Copy, Debug, Drop)]
+#[derive(Clone, Copy, Drop)]
 pub enum Heads {
     Same,
     Binds(Pair),

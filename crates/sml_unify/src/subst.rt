@@ -16,7 +16,7 @@ use smlc_base::{NoMemory, Row};
 use std::alloc::Global;
 
 /// What type variables are bound to: item i is for the variable of number i.
-#[derive(Debug, Drop)]
+#[derive(Drop)]
 pub struct Subst {
     pub bound: Row<Option<Ty>>,
 }

@@ -11,7 +11,7 @@ use smlc_base::NoMemory;
 use std::alloc::Global;
 
 /// To make a pair equal, or to note two forms as equal once all that was begun after is done.
-#[derive(Clone, Copy, Debug, Drop)]
+#[derive(Clone, Copy, Drop)]
 pub enum Task {
     Unify(Pair),
     Link(Pair),

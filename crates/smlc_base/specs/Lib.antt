@@ -1,2 +1,5 @@
+pub mod Exceptions
+pub mod Points
 pub mod Refusals
+pub mod SiteWords
 pub mod Texts

@@ -80,21 +80,3 @@ impl Names {
         }
     }
 }
-
-#[cfg(test)]
-mod tests {
-    use super::*;
-    use std::test::Fail;
-
-    #[test]
-    fn adds_once(rt: HostRuntime) -> Result<(), Fail> {
-        let mut names = Names::new(rt.alloc());
-        let first = names.add(b"a")?;
-        let second = names.add(b"b")?;
-        let again = names.add(b"a")?;
-        assert_eq!(rt; first, Name(0));
-        assert_eq!(rt; second, Name(1));
-        assert_eq!(rt; again, Name(0));
-        Ok(())
-    }
-}

@@ -70,7 +70,7 @@ impl Banned {
 }
 
 /// Why a program is refused, with the place.
-#[derive(Clone, Copy, PartialEq, Eq, Debug)]
+#[derive(Clone, Copy, PartialEq, Eq)]
 pub enum Refusal {
     BadToken(Place),
     Unclosed(Place),
@@ -155,6 +155,12 @@ impl Refusal {
 impl fmt::Display for Refusal {
     fn fmt<W: fmt::Write>(&self, f: &mut fmt::Formatter<W>) -> fmt::Result {
         write!(f, "refused {} {}", self.number(), self.kind())
+    }
+}
+
+impl fmt::Debug for Refusal {
+    fn fmt<W: fmt::Write>(&self, f: &mut fmt::Formatter<W>) -> fmt::Result {
+        write!(f, "{}", self)
     }
 }
 

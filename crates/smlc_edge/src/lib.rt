@@ -17,6 +17,3 @@ pub use edge::{Failed, Sink, Source, Store, StoreError};
 pub use memory::{MemSink, MemSource};
 pub use quiet::{QuietSink, QuietSource};
 pub use store::MemStore;
-
-#[cfg(test)]
-mod tests;

@@ -3,13 +3,14 @@ use Rattle.std.proofs.Common.{◌≡◌, ◌⊎◌, inl, inr, ℕ, ◌≤◌, Li
 use Rattle.std.proofs.lemmas.List.{append-nil}
 use Rattle.smlc_edge.specs.Edge.{Rose, Fails, Files}
 use Rattle.smlc_edge.proofs.Gained.{gains_none, gains_more}
-use Rattle.smlc_top.specs.declared.outcome.Outcome.{Outcome}
-use Rattle.smlc_top.specs.Job.{Job, CompileFiles, IsAsked, files_of, target_of}
-use Rattle.smlc_top.specs.Outcome.{line_of, status_of}
-use Rattle.smlc_top.specs.Texts.{name_at, memory_line, store_line, input_line, out_line}
-use Rattle.smlc_top.specs.Held.{KeepsFiles}
-use Rattle.smlc_top.specs.Write.{IsPrefix, Said}
-use Rattle.smlc_top.specs.Clause.{Answers, answered, plain, not_loaded, not_saved, input_failed, out_failed, err_failed, untold, untold_plain, Comes, Plain, no_memory, Tally, IsSame, Came, Performed, fine, want, load_failed, save_failed, read_failed, write_failed, error_failed}
+use Rattle.smlc_jobs.specs.declared.outcome.Outcome.{Outcome}
+use Rattle.smlc_jobs.specs.Job.{Job, CompileFiles, IsAsked, files_of, target_of}
+use Rattle.smlc_jobs.specs.Outcome.{line_of, status_of}
+use Rattle.smlc_jobs.specs.Texts.{name_at, memory_line, store_line, input_line, out_line}
+use Rattle.smlc_jobs.specs.Held.{KeepsFiles}
+use Rattle.smlc_jobs.specs.Write.{IsPrefix, Said}
+use Rattle.smlc_top.specs.Clause.{Answers, answered, plain, not_loaded, not_saved, input_failed, out_failed, err_failed, untold, untold_plain, Comes, Plain, no_memory, Performed, fine, want, load_failed, save_failed, read_failed, write_failed, error_failed}
+use Rattle.smlc_jobs.specs.Runs.{Tally, IsSame, Came}
 
 -- counts that stand still, and one that rises later
 same_now : (before now : Tally) (err : ℕ) → IsSame before now → err ≡ now.err → IsSame before (record now { err = err })

@@ -1,5 +1,5 @@
 -- refusals of the front end and of inference, from those of their parts
-use Rattle.std.proofs.Common.{ℕ, List, sym, subst}
+use Rattle.std.proofs.Common.{◌≡◌, ℕ, List, [], ◌∷◌, sym, subst, ◌∙◌}
 use Rattle.smlc_base.specs.declared.refusal.Refusal.TheVariants.{BadType}
 use Rattle.smlc_base.specs.declared.refusal.CompileError.{CompileError}
 use Rattle.smlc_base.specs.declared.refusal.CompileError.TheVariants as error
@@ -13,19 +13,44 @@ use Rattle.sml_tree.specs.declared.bare.Bare.{Bare}
 use Rattle.sml_types.specs.declared.typed.Typed.{Typed}
 use Rattle.sml_infer.specs.Typing.{IsInferred}
 use Rattle.sml_infer.specs.Typing as types
-use Rattle.smlc_top.specs.Front.{HasTree, by_tokens, by_syntax, by_bindings, Fails, HasTypes, by_front, by_types, TypesFail}
+use Rattle.sml_prelude.specs.Text.{library_text}
+use Rattle.smlc_top.specs.Front as front
+use Rattle.smlc_top.specs.Front.{IsLibrary, LibraryFails, HasTree, Fails, HasTypes, by_front, by_types, TypesFail}
 
-pub tokens_fail : (files : List (List ℕ)) (e : CompileError) → IsRefused files e → Fails files e
+-- the library's file, as its text
+pub library_lexed : (names files : List (List ℕ)) (lexed : Lexed) → names ≡ [] → files ≡ library_text ∷ [] → IsLexed names [] 0 files lexed → IsLexed [] [] 0 (library_text ∷ []) lexed
+library_lexed names files lexed e f h = subst (λ n. IsLexed n [] 0 (library_text ∷ []) lexed) e (subst (λ x. IsLexed names [] 0 x lexed) f h)
+
+pub library_tokens_fail : (e : CompileError) → IsRefused 0 (library_text ∷ []) e → LibraryFails e
+library_tokens_fail error.NoMemory h = tt
+library_tokens_fail (error.Refused r) h = front.IsLibraryRefusal.by_tokens r h
+
+pub library_syntax_fails : (lexed : Lexed) (e : CompileError) → IsLexed [] [] 0 (library_text ∷ []) lexed → syntax.Fails lexed e → LibraryFails e
+library_syntax_fails lexed error.NoMemory lexes h = tt
+library_syntax_fails lexed (error.Refused r) lexes h = front.IsLibraryRefusal.by_syntax lexed r lexes h
+
+pub library_fails : (files : List (List ℕ)) (e : CompileError) → LibraryFails e → Fails files e
+library_fails files error.NoMemory h = tt
+library_fails files (error.Refused r) h = front.IsRefusal.by_library r h
+
+pub tokens_fail : (files : List (List ℕ)) (e : CompileError) → IsRefused 1 files e → Fails files e
 tokens_fail files error.NoMemory h = tt
-tokens_fail files (error.Refused r) h = by_tokens r h
+tokens_fail files (error.Refused r) h = front.IsRefusal.by_tokens r h
 
-pub syntax_fails : (files : List (List ℕ)) (lexed : Lexed) (e : CompileError) → IsLexed files lexed → syntax.Fails lexed e → Fails files e
-syntax_fails files lexed error.NoMemory lexes h = tt
-syntax_fails files lexed (error.Refused r) lexes h = by_syntax lexed r lexes h
+pub syntax_fails : (files : List (List ℕ)) (library : Tree) (lexed : Lexed) (e : CompileError) → IsLibrary library → IsLexed library.names library.texts 1 files lexed → syntax.Fails lexed e → Fails files e
+syntax_fails files library lexed error.NoMemory stands lexes h = tt
+syntax_fails files library lexed (error.Refused r) stands lexes h = front.IsRefusal.by_syntax library lexed r stands lexes h
 
-pub bindings_fail : (files : List (List ℕ)) (lexed : Lexed) (tree : Tree) (e : CompileError) → IsLexed files lexed → IsParse lexed tree → bindings.Fails tree e → Fails files e
-bindings_fail files lexed tree error.NoMemory lexes parses h = tt
-bindings_fail files lexed tree (error.Refused r) lexes parses h = by_bindings lexed tree r lexes parses h
+pub bindings_fail : (files : List (List ℕ)) (library : Tree) (lexed : Lexed) (tree : Tree) (e : CompileError) → IsLibrary library → IsLexed library.names library.texts 1 files lexed → IsParse lexed tree → bindings.Fails library tree e → Fails files e
+bindings_fail files library lexed tree error.NoMemory stands lexes parses h = tt
+bindings_fail files library lexed tree (error.Refused r) stands lexes parses h = front.IsRefusal.by_bindings library lexed tree r stands lexes parses h
+
+-- a parse of tokens behind the library's names and texts goes on where they end
+pub goes_on : (files : List (List ℕ)) (library : Tree) (lexed : Lexed) (tree : Tree) → IsLexed library.names library.texts 1 files lexed → IsParse lexed tree → bindings.Continues library tree
+goes_on files library lexed tree lexes parses = record {
+  names = (lexes.more_names.0, parses.names ∙ lexes.more_names.1);
+  texts = (lexes.more_texts.0, parses.texts ∙ lexes.more_texts.1);
+}
 
 pub front_fails : (files : List (List ℕ)) (e : CompileError) → Fails files e → TypesFail files e
 front_fails files error.NoMemory h = tt

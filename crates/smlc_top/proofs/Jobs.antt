@@ -1,5 +1,5 @@
 -- jobs from their parts
-use Rattle.std.proofs.Common.{◌≡◌, ℕ, ◌+◌, ◌*◌, ◌≤◌, List, [], ◌∷◌, length, Option, Some, Ok, Err, refl, sym, subst, ap, arith}
+use Rattle.std.proofs.Common.{◌≡◌, ℕ, ◌+◌, ◌*◌, List, [], length, Option, Some, Ok, Err, refl, sym, subst}
 use Rattle.std.specs.declared.vec.Vec.{Vec}
 use Rattle.std.specs.declared.alloc.Global.{Global}
 use Rattle.smlc_base.specs.declared.refusal.Refusal.{Refusal}
@@ -9,58 +9,21 @@ use Rattle.smlc_edge.proofs.Gained.{gains_none}
 use Rattle.elf_static.specs.declared.image.Image.{Image}
 use Rattle.elf_static.specs.Reading.{meaning_of}
 use Rattle.rv_machine.specs.Run.{Mend, Runs, Exited, Trapped}
-use Rattle.smlc_words.specs.Given.{Given}
-use Rattle.smlc_words.specs.Asks.{Asked, Asks, IsFor, Run, Compile, Exec, Types}
-use Rattle.smlc_words.proofs.Once.{asks_once}
-use Rattle.smlc_top.specs.declared.outcome.Outcome.{Outcome}
-use Rattle.smlc_top.specs.declared.outcome.Outcome.TheVariants as outcome
-use Rattle.std.specs.Prelude.{IfSome, IfNone, None}
-use Rattle.smlc_top.specs.declared.job.Job.{Job as Held}
-use Rattle.smlc_top.specs.Job.{Job, job_of, RunFiles, CompileFiles, ExecFile, TypesFiles, IsAsked, Allows, files_of}
-use Rattle.smlc_top.specs.Outcome.{ended_outcome}
-use Rattle.smlc_top.specs.Texts.{refused_line}
+use Rattle.smlc_jobs.specs.declared.outcome.Outcome.{Outcome}
+use Rattle.smlc_jobs.specs.declared.outcome.Outcome.TheVariants as outcome
+use Rattle.smlc_jobs.specs.Job.{RunFiles, CompileFiles, ExecFile, TypesFiles, GenText}
+use Rattle.smlc_jobs.specs.Outcome.{ended_outcome}
+use Rattle.smlc_jobs.specs.Texts.{refused_line}
+use Rattle.generator.specs.Text.{program_text}
 use Rattle.smlc_top.specs.Front.{IsUntyped}
 use Rattle.smlc_top.specs.Types.{Shows}
-use Rattle.smlc_top.specs.Write.{Whole}
+use Rattle.smlc_jobs.specs.Write.{Whole}
 use Rattle.smlc_top.specs.Build.{IsElfOf}
-use Rattle.smlc_top.specs.Execute.{RanImage, exited, went_on, trapped, had_no_memory, input_fault, out_fault, err_fault, Executed, of_image, not_read, read_memory}
-use Rattle.smlc_top.specs.Held.{IsHeld, AreHeld, KeepsFiles, ChangesOnly, HasSaved}
-use Rattle.smlc_top.specs.Clause.{Means, IsRefused, Compiles, Tally, IsSame, IsRun, IsMidway, Came, tally, Comes, ran, stopped, run_refused, compile_refused, exec_exited, exec_stopped, exec_trapped, exec_not_elf, Midway, running, executing, in_run, in_types, typed, types_refused, Performed, fine, want, read_failed, write_failed, error_failed}
-use Rattle.smlc_top.proofs.Ends.{Concludes, prints_concludes}
-
--- ---- what the words ask
-
--- a command that is no job of these, so that the words ask for none
-pub none_asked : (words : List (List ℕ)) (a : Asked) → Asks words a → ((job : Job) → Allows a job → ⊥) → (job : Job) → IsAsked words job → ⊥
-none_asked words a asks never job h = never job (subst (λ (b : Asked). Allows b job) (asks_once words h.asked a h.asks asks) h.allows)
-
--- words that ask nothing
-pub nothing_asked : (words : List (List ℕ)) → ((a : Asked) → Asks words a → ⊥) → (job : Job) → IsAsked words job → ⊥
-nothing_asked words never job h = never h.asked h.asks
-
-pub some_asked : (words : List (List ℕ)) (a : Asked) → Asks words a → (o : Option Held) → IfSome o (λ j. Allows a (job_of j)) → IfSome o (λ j. IsAsked words (job_of j))
-some_asked words a asks None h = tt
-some_asked words a asks (Some j) h = record { asked = a; asks = asks; allows = h }
-
-pub no_job : (words : List (List ℕ)) (a : Asked) → Asks words a → (o : Option Held) → IfNone o ((job : Job) → Allows a job → ⊥) → IfNone o ((job : Job) → IsAsked words job → ⊥)
-no_job words a asks None h = none_asked words a asks h
-no_job words a asks (Some j) h = tt
-
--- a job that is asked for has at most 256 files
-few_files : (name : List ℕ) (g : Given) (a : Asked) (job : Job) → IsFor name g a → Allows a job → length (files_of job) ≤ 256
-few_files name g (Run files None given) (RunFiles names steps) h allows = let few = h.1.1 in omega (arith, ap length allows.0, few)
-few_files name g (Compile files out None) (CompileFiles names target) h allows = let few = h.1.1 in omega (arith, ap length allows.0, few)
-few_files name g (Exec elf given) (ExecFile n steps) h allows = omega arith
-few_files name g (Types files) (TypesFiles names) h allows = let few = h.1.1 in omega (arith, ap length allows, few)
-few_files name g a job h allows = absurd allows
-
-few_asks : (words : List (List ℕ)) (a : Asked) (job : Job) → Asks words a → Allows a job → length (files_of job) ≤ 256
-few_asks [] a job asks allows = absurd asks
-few_asks (program ∷ []) a job asks allows = absurd asks
-few_asks (program ∷ name ∷ words) a job asks allows = few_files name asks.0 a job asks.2 allows
-
-pub few_asked : (words : List (List ℕ)) (job : Job) → IsAsked words job → length (files_of job) ≤ 256
-few_asked words job h = few_asks words h.asked job h.asks h.allows
+use Rattle.smlc_jobs.specs.Execute.{RanImage, exited, went_on, trapped, had_no_memory, input_fault, out_fault, err_fault, Executed, of_image, not_read, read_memory}
+use Rattle.smlc_jobs.specs.Held.{IsHeld, AreHeld, KeepsFiles, ChangesOnly, HasSaved}
+use Rattle.smlc_top.specs.Clause.{Means, IsRefused, Compiles, Comes, ran, stopped, run_refused, compile_refused, exec_exited, exec_stopped, exec_trapped, exec_not_elf, Midway, running, executing, in_run, in_types, in_gen, generated, typed, types_refused, Performed, fine, want, read_failed, write_failed, error_failed}
+use Rattle.smlc_jobs.specs.Runs.{Tally, IsSame, IsRun, IsMidway, Came, tally}
+use Rattle.print_code.proofs.Ends.{Concludes, prints_concludes}
 
 -- ---- `run`
 
@@ -171,4 +134,28 @@ module _ (names : List (List ℕ)) (told kept : Option Files) (files : List (Lis
     gains = w.gains;
     gains_err = gains_none err;
     says = write_failed f.1 (in_types names files text held shows w.front refl) keeps;
+  }
+
+-- ---- `gen`
+
+module _ (number size : ℕ) (told : Option Files) (input : Option (List ℕ)) (store i e o o' : ℕ) (out out' err : Option (List ℕ)) where
+  abbrev Afterwards : Outcome → Type 0
+  Afterwards outcome = Came out out' err err (λ w m. Performed (GenText number size) told told (tally store i o e) (tally store i o' e) input w m outcome)
+
+  pub gen_written : (u : Unit {0}) → Whole (program_text number size) (Ok u) out out' → o' ≡ o → Afterwards outcome.Done
+  gen_written u w counts = record {
+    wrote = w.wrote;
+    wrote_err = [];
+    gains = w.gains;
+    gains_err = gains_none err;
+    says = fine outcome.Done (generated number size w.all refl (λ files t. t)) (record { store = refl; input = refl; out = counts; err = refl });
+  }
+
+  pub gen_cut : (failed : Failed) → Whole (program_text number size) (Err failed) out out' → Fails o o' → Afterwards outcome.OutFault
+  gen_cut failed w f = record {
+    wrote = w.wrote;
+    wrote_err = [];
+    gains = w.gains;
+    gains_err = gains_none err;
+    says = write_failed f.1 (in_gen number size w.front refl) (λ files t. t);
   }

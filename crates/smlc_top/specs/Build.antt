@@ -6,7 +6,7 @@ use Rattle.elf_static.specs.Reading.{meaning_of}
 use Rattle.smlc_top.specs.declared.build.Built.{Built}
 use Rattle.smlc_top.specs.declared.build.Built.TheVariants.{Elf, Refused, NoMemory}
 use Rattle.smlc_top.specs.Clause.{Means, IsRefused, Compiles}
-use Rattle.smlc_top.specs.Texts.{refused_line}
+use Rattle.smlc_jobs.specs.Texts.{refused_line}
 
 -- the bytes of an ELF file whose image prints the text
 pub record IsElfOf (text bytes : List ℕ) : Type 0 where

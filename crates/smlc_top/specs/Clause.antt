@@ -1,10 +1,10 @@
 -- What the program answers.
-use Rattle.std.specs.Prelude.{ℕ, ◌≡◌, ◌+◌, ◌*◌, ◌≤◌, List, [], ◌++◌, length, Option, Ok, Err}
+use Rattle.std.specs.Prelude.{ℕ, ◌≡◌, ◌+◌, ◌*◌, List, [], ◌++◌, length, Option, Ok, Err}
 use Rattle.smlc_base.specs.declared.place.Place.{Place}
 use Rattle.smlc_base.specs.declared.refusal.Refusal.{Refusal}
 use Rattle.smlc_base.specs.declared.refusal.Refusal.TheVariants.{NotInSubset}
 use Rattle.smlc_base.specs.declared.refusal.Banned.TheVariants.{Later}
-use Rattle.smlc_edge.specs.Edge.{Files, Rose, Fails, Gains}
+use Rattle.smlc_edge.specs.Edge.{Files, Rose, Fails}
 use Rattle.sml_tree.specs.declared.bare.Bare.{Bare}
 use Rattle.sml_types.specs.Typing.{IsTypable}
 use Rattle.elf_static.specs.declared.image.Image.{Image}
@@ -12,18 +12,21 @@ use Rattle.elf_static.specs.declared.error.ElfKind.{ElfKind}
 use Rattle.elf_static.specs.declared.error.ElfError.TheVariants as elf
 use Rattle.elf_static.specs.Reading.{meaning_of}
 use Rattle.elf_static.specs.Table.{no_entries}
-use Rattle.rv_machine.specs.Run.{Cut, Mend, Runs, Exited, Trapped, behaviour}
-use Rattle.smlc_top.specs.declared.outcome.Outcome.{Outcome}
-use Rattle.smlc_top.specs.declared.outcome.Outcome.TheVariants as outcome
+use Rattle.rv_machine.specs.Run.{Runs, Exited, Trapped}
+use Rattle.smlc_jobs.specs.declared.outcome.Outcome.{Outcome}
+use Rattle.smlc_jobs.specs.declared.outcome.Outcome.TheVariants as outcome
+use Rattle.generator.specs.Text.{program_text}
 use Rattle.smlc_top.specs.Front.{HasTree, IsUntyped}
-use Rattle.smlc_top.specs.Plain.{Says, StopsAt}
+use Rattle.print_code.specs.Plain.{Says, StopsAt}
 use Rattle.smlc_top.specs.Types.{Shows}
-use Rattle.smlc_top.specs.Held.{IsHeld, AreHeld, LoadsUpTo, KeepsFiles, ChangesOnly, HasSaved}
-use Rattle.smlc_top.specs.Job.{Job, RunFiles, CompileFiles, ExecFile, TypesFiles, IsAsked, files_of, target_of}
-use Rattle.smlc_top.specs.Prints.{begun, Prints}
-use Rattle.smlc_top.specs.Texts.{name_at, plan_text, refused_line, usage_line, memory_line, store_line, input_line, out_line, steps_line, exit_line, elf_line, trap_line}
-use Rattle.smlc_top.specs.Write.{IsPrefix}
-use Rattle.smlc_top.specs.Outcome.{line_of, status_of}
+use Rattle.smlc_jobs.specs.Held.{IsHeld, AreHeld, LoadsUpTo, KeepsFiles, ChangesOnly, HasSaved}
+use Rattle.smlc_jobs.specs.Job.{Job, RunFiles, CompileFiles, ExecFile, TypesFiles, GenText, IsAsked, files_of, target_of}
+use Rattle.print_code.specs.Code.{plan_text}
+use Rattle.print_code.specs.Prints.{Prints}
+use Rattle.smlc_jobs.specs.Texts.{name_at, refused_line, usage_line, memory_line, store_line, input_line, out_line, steps_line, exit_line, elf_line, trap_line}
+use Rattle.smlc_jobs.specs.Write.{IsPrefix}
+use Rattle.smlc_jobs.specs.Outcome.{line_of, status_of}
+use Rattle.smlc_jobs.specs.Runs.{Tally, IsSame, IsRun, IsMidway}
 
 -- ---- files
 
@@ -44,45 +47,6 @@ pub record Compiles (text : List ℕ) (image : Image) : Type 0 where
   pub prints : Prints image text (64 * (1 + length text))
   pub entries : image.entries ≡ no_entries
   pub plan : image.plan ≡ plan_text
-
--- ---- counts of faults
-
--- how often store, input, out and err failed
-pub record Tally : Type 0 where
-  pub store : ℕ
-  pub input : ℕ
-  pub out : ℕ
-  pub err : ℕ
-
-abbrev pub tally : ℕ → ℕ → ℕ → ℕ → Tally
-tally store input out err = record { store = store; input = input; out = out; err = err }
-
--- no count moved
-pub record IsSame (before now : Tally) : Type 0 where
-  pub store : now.store ≡ before.store
-  pub input : now.input ≡ before.input
-  pub out : now.out ≡ before.out
-  pub err : now.err ≡ before.err
-
--- ---- runs
-
--- so many instructions of the image were done at the most, and all of them where it goes on; it has written this
-pub record IsRun (image : Image) (input : Option (List ℕ)) (steps : ℕ) (mend : Mend) (out err : List ℕ) : Type 0 where
-  pub count : ℕ
-  pub within : count ≤ steps
-  pub all : mend ≡ Runs → count ≡ steps
-  pub cuts : List Cut
-  pub ends : (behaviour count (begun image input) cuts).mend ≡ mend
-  pub wrote : (behaviour count (begun image input) cuts).world.out ≡ out
-  pub wrote_err : (behaviour count (begun image input) cuts).world.err ≡ err
-
--- it goes on, and has written this
-pub record IsMidway (image : Image) (input : Option (List ℕ)) (out err : List ℕ) : Type 0 where
-  pub count : ℕ
-  pub cuts : List Cut
-  pub goes_on : (behaviour count (begun image input) cuts).mend ≡ Runs
-  pub wrote : (behaviour count (begun image input) cuts).world.out ≡ out
-  pub wrote_err : (behaviour count (begun image input) cuts).world.err ≡ err
 
 -- ---- the whole call
 
@@ -111,6 +75,7 @@ pub data Comes (told now : Option Files) (input : Option (List ℕ)) (out merr :
       merr ≡ [] → KeepsFiles told now → Comes told now input out merr (TypesFiles names) [] 0
   types_refused : (names files : List (List ℕ)) (refusal : Refusal) → AreHeld told names files → IsUntyped files refusal →
       out ≡ [] → merr ≡ [] → KeepsFiles told now → Comes told now input out merr (TypesFiles names) (refused_line names refusal) 2
+  generated : (number size : ℕ) → out ≡ program_text number size → merr ≡ [] → KeepsFiles told now → Comes told now input out merr (GenText number size) [] 0
 
 -- a run that was going on when a fault came, with what it had written
 pub data Midway (told : Option Files) (input : Option (List ℕ)) (out merr : List ℕ) : Job → Type 0 where
@@ -118,10 +83,11 @@ pub data Midway (told : Option Files) (input : Option (List ℕ)) (out merr : Li
       IsPrefix out text → merr ≡ [] → Midway told input out merr (RunFiles names steps)
   executing : (name : List ℕ) (steps : ℕ) (file : List ℕ) (image : Image) → IsHeld told name file → meaning_of file ≡ Ok image → IsMidway image input out merr → Midway told input out merr (ExecFile name steps)
 
--- what was going on when a write on out failed: a run, or the text of types, of which a prefix was written
+-- what was going on when a write on out failed: a run, or the text of types or of a large program, of which a prefix was written
 pub data CutOff (told : Option Files) (input : Option (List ℕ)) (out merr : List ℕ) : Job → Type 0 where
   in_run : (job : Job) → Midway told input out merr job → CutOff told input out merr job
   in_types : (names files : List (List ℕ)) (text : List ℕ) → AreHeld told names files → Shows files text → IsPrefix out text → merr ≡ [] → CutOff told input out merr (TypesFiles names)
+  in_gen : (number size : ℕ) → IsPrefix out (program_text number size) → merr ≡ [] → CutOff told input out merr (GenText number size)
 
 -- what comes whatever the job, or without one
 pub data Plain (words : List (List ℕ)) : List ℕ → ℕ → Type 0 where
@@ -151,14 +117,6 @@ pub data Answers (words : List (List ℕ)) (told now : Option Files) (before aft
       Answers words told now before after input out err 5
 
 -- ---- its parts
-
--- what was written on out and err, and what is said of it
-pub record Came (out out_now err err_now : Option (List ℕ)) (Says : List ℕ → List ℕ → Type 0) : Type 0 where
-  pub wrote : List ℕ
-  pub wrote_err : List ℕ
-  pub gains : Gains out out_now wrote
-  pub gains_err : Gains err err_now wrote_err
-  pub says : Says wrote wrote_err
 
 -- the job was done, up to the line that tells it
 pub data Performed (job : Job) (told now : Option Files) (before after : Tally) (input : Option (List ℕ)) (out merr : List ℕ) : Outcome → Type 0 where

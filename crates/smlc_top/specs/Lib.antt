@@ -1,16 +1,4 @@
 pub mod Front
-pub mod Plain
-pub mod Code
-pub mod Reading
-pub mod Prints
-pub mod Texts
-pub mod Write
 pub mod Types
-pub mod Job
-pub mod Held
-pub mod Load
-pub mod Outcome
 pub mod Clause
 pub mod Build
-pub mod Execute
-pub mod Laws

@@ -6,7 +6,7 @@ use Rattle.text_laws.specs.Tells.{Tells}
 use Rattle.smlc_top.specs.declared.types.Shown.{Shown}
 use Rattle.smlc_top.specs.declared.types.Shown.TheVariants.{Text, Refused, NoMemory}
 use Rattle.smlc_top.specs.Front.{HasTree, IsUntyped}
-use Rattle.smlc_top.specs.Texts.{refused_line}
+use Rattle.smlc_jobs.specs.Texts.{refused_line}
 
 -- the files have a bare tree, and the text tells its types
 pub record Shows (files : List (List ℕ)) (text : List ℕ) : Type 0 where

@@ -1,19 +1,19 @@
 //! The ELF file of a program of prints.
 
-ghost use Rattle.std.specs.Prelude.{◌<◌, ◌^◌, length, map};
+ghost use Rattle.std.specs.Prelude.{◌+◌, ◌<◌, ◌^◌, length, map};
 ghost use Rattle.smlc_top.specs.Build.{IsBuilt, IsMade, IsRefusal};
-ghost use Rattle.smlc_top.specs.Code.{IsStraight};
+ghost use Rattle.print_code.specs.Code.{IsStraight};
 
-use crate::code::{Printed, make};
 use crate::front::typed_of;
-use crate::outcome::refused_text;
-use crate::plain::{Reading, read};
 use elf_static::write_elf;
+use print_code::code::{Printed, make};
+use print_code::plain::{Reading, read};
 use smlc_base::{Banned, CompileError, Refusal};
+use smlc_jobs::outcome::refused_text;
 use std::alloc::Global;
 
 /// What became of files.
-#[derive(Debug, Drop)]
+#[derive(Drop)]
 pub enum Built {
     /// The bytes of an ELF file.
     Elf(Vec<u8>),
@@ -25,7 +25,7 @@ pub enum Built {
 
 /// Compiles the files of these names.
 pub fn build(alloc: Global, names: &[&str], files: &[Vec<u8>]) -> Built
-    requires { length files.now < 2 ^ 32 }
+    requires { length files.now + 1 < 2 ^ 32 }
     ensures { IsBuilt (map (λ name. name.now) names.now) (map (λ f. f.items) files.now) result }
 {
     let typed = match typed_of(alloc, files) {

@@ -5,19 +5,8 @@
 #![tactic(auto)]
 
 pub mod build;
-pub mod code;
-pub mod execute;
 pub mod front;
-pub mod job;
-pub mod laws;
-pub mod load;
-pub mod outcome;
-pub mod plain;
 pub mod top;
 pub mod types;
-pub mod write;
 
 pub use top::smlc_main;
-
-#[cfg(test)]
-mod tests;

@@ -1,25 +1,28 @@
 //! The top call.
 
 ghost use Rattle.std.specs.Prelude.{◌≡◌, ◌≢◌, ◌≤◌, List, [], ℕ, Option, All, length, map, string_bytes, false};
-ghost use Rattle.smlc_top.specs.Job.{RunFiles, CompileFiles, ExecFile, TypesFiles, IsAsked, Serves, files_of, job_of};
-ghost use Rattle.smlc_top.specs.Job.{Job as Wanted};
-ghost use Rattle.smlc_top.specs.Outcome.{is_fault, ended_outcome};
-ghost use Rattle.smlc_top.specs.Clause.{tally, Came, Answers, Performed};
+ghost use Rattle.smlc_jobs.specs.Job.{RunFiles, CompileFiles, ExecFile, TypesFiles, GenText, IsAsked, Serves, files_of, job_of};
+ghost use Rattle.smlc_jobs.specs.Job.{Job as Wanted};
+ghost use Rattle.smlc_jobs.specs.Outcome.{is_fault, ended_outcome};
+ghost use Rattle.smlc_top.specs.Clause.{Answers, Performed};
+ghost use Rattle.smlc_edge.specs.Edge.{Files};
+ghost use Rattle.smlc_jobs.specs.Runs.{tally, Came};
 
 use crate::build::{Built, build};
-use crate::execute::execute;
-use crate::job::{Job, find_job};
-use crate::load::{Loaded, load_all};
-use crate::outcome::{MEMORY, Outcome, USAGE, report};
 use crate::types::{Shown, show};
-use crate::write::{say, write_whole};
+use generator::program;
 use smlc_edge::{Sink, Source, Store, StoreError};
+use smlc_jobs::execute::execute;
+use smlc_jobs::job::{Job, find_job};
+use smlc_jobs::load::{Loaded, load_all};
+use smlc_jobs::outcome::{MEMORY, Outcome, USAGE, report};
+use smlc_jobs::write::{say, write_whole};
 use std::alloc::Global;
 
 /// Does what the words say, and answers the status.
 ///
 /// `run FILE.. [--steps N]` compiles a program of prints and runs it, `compile FILE.. -o OUT` saves what was made as an ELF file, and
-/// `exec ELF [--steps N]` runs any ELF file that keeps to the system calls of the machine. `types FILE..` writes the types of a program's names.
+/// `exec ELF [--steps N]` runs any ELF file that keeps to the system calls of the machine. `types FILE..` writes the types of a program's names, and `gen NUMBER SIZE` a large program.
 /// What the program prints and the types go to `out`, and the line of the status to `err`. The status is 0 where all was done, 2 where the files were refused,
 /// 4 where so many instructions were done and the program goes on, 5 where the outside failed, 6 for want of memory, 7 where the words are no command,
 /// 8 where the file is no ELF file that can be run, and 9 where the machine has no step.
@@ -83,6 +86,10 @@ fn do_job<F: Store, I: Source, O: Sink, E: Sink>(
             let names = files.as_slice();
             let outcome = types(alloc, names, store, out);
             report(err, names, "", &outcome)
+        }
+        Job::Gen { number, size } => {
+            let outcome = generate(alloc, number, size, out);
+            report(err, &[], "", &outcome)
         }
     }
 }
@@ -166,6 +173,21 @@ fn exec<F: Store, I: Source, O: Sink, E: Sink>(
         Ok(file) => execute(alloc, &file, steps, input, out, err),
         Err(StoreError::NoMemory) => Outcome::NoMemory,
         Err(StoreError::Failed) => Outcome::LoadFault(0),
+    }
+}
+
+// Writes the large program of a number and a size.
+fn generate<O: Sink>(alloc: Global, number: u64, size: u64, out: &mut O) -> Outcome
+    ensures performed { (store i e : ℕ) (told : Option Files) (input err : Option (List ℕ)) → Came (O.taken out.old) (O.taken out.new) err err (λ wrote wrote_err.
+        Performed (GenText number size) told told (tally store i (O.faults out.old) e) (tally store i (O.faults out.new) e) input wrote wrote_err result) }
+    ensures sure { O.sure out.old → is_fault result ≡ false }
+{
+    match program(alloc, number, size) {
+        Ok(text) => match write_whole(out, &text) {
+            Ok(()) => Outcome::Done,
+            Err(_) => Outcome::OutFault,
+        },
+        Err(_) => Outcome::NoMemory,
     }
 }
 

@@ -1,6 +1,6 @@
 //! The text of the types of a program's names.
 
-ghost use Rattle.std.specs.Prelude.{◌≡◌, ◌<◌, ◌^◌, length, map, IfOk};
+ghost use Rattle.std.specs.Prelude.{◌≡◌, ◌+◌, ◌<◌, ◌^◌, length, map, IfOk};
 ghost use Rattle.sml_tree.specs.BareParts.{IsNumbered};
 ghost use Rattle.sml_tree.specs.IsBare.{IsBare};
 ghost use Rattle.sml_infer.specs.Typing.{IsInferred};
@@ -8,16 +8,16 @@ ghost use Rattle.smlc_top.specs.Types.{IsShown, IsTold, IsRefusal};
 ghost use Rattle.text_laws.specs.Tells.{shown_names, Tells};
 
 use crate::front::typed_of;
-use crate::outcome::refused_text;
 use infer_scopes::pattern_names;
 use sml_tree::Bare;
 use sml_types::Typed;
 use smlc_base::{CompileError, Name, NoMemory, Refusal};
+use smlc_jobs::outcome::refused_text;
 use std::alloc::Global;
 use type_text::lines;
 
 /// What became of files whose types are to be shown.
-#[derive(Debug, Drop)]
+#[derive(Drop)]
 pub enum Shown {
     /// The lines of their names.
     Text(Vec<u8>),
@@ -29,7 +29,7 @@ pub enum Shown {
 
 /// Shows the types of the files of these names.
 pub fn show(alloc: Global, names: &[&str], files: &[Vec<u8>]) -> Shown
-    requires { length files.now < 2 ^ 32 }
+    requires { length files.now + 1 < 2 ^ 32 }
     ensures { IsShown (map (λ name. name.now) names.now) (map (λ f. f.items) files.now) result }
 {
     match typed_of(alloc, files) {

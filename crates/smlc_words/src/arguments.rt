@@ -10,7 +10,7 @@ use smlc_base::NoMemory;
 use std::alloc::Global;
 
 /// The operands in order, and the value of each option that was given.
-#[derive(Debug, Drop)]
+#[derive(Drop)]
 pub struct Arguments<'a> {
     pub operands: Vec<&'a str>,
     pub out: Option<&'a str>,

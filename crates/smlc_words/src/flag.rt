@@ -4,7 +4,7 @@ ghost use Rattle.std.specs.Prelude.{◌≡◌, ◌≢◌, IfSome, IfNone};
 ghost use Rattle.smlc_words.specs.Given.{spelling};
 
 /// An option. The word behind it is its value.
-#[derive(Clone, Copy, PartialEq, Eq, Debug)]
+#[derive(Clone, Copy)]
 pub enum Flag {
     /// `-o`: the file that is written.
     Out,

@@ -14,6 +14,3 @@ pub mod words;
 pub use asked::Command;
 pub use flag::Flag;
 pub use words::command;
-
-#[cfg(test)]
-mod tests;

@@ -12,6 +12,3 @@ mod written;
 
 pub use level::Level;
 pub use text::lines;
-
-#[cfg(test)]
-mod tests;

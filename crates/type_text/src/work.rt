@@ -11,7 +11,7 @@ use std::alloc::Global;
 use std::marker::Model;
 
 /// What is to be shown: a type at a level; the further parts of a tuple, the further fields of a record and the further arguments of a type name, each behind what separates it from those before; a label; bytes.
-#[derive(Clone, Copy, Debug, Drop)]
+#[derive(Clone, Copy, Drop)]
 pub(crate) enum Piece<'a> {
     Type(Ty, Level),
     Tuple(&'a [Field]),

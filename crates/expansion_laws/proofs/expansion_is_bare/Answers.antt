@@ -2,4 +2,4 @@ use Rattle.expansion_laws.proofs.Clauses.{expands_to_bare}
 use Rattle.expansion_laws.proofs.expansion_is_bare.Goals as goal
 
 pub returns : goal.returns
-returns c = λ tree. expands_to_bare tree
+returns c = λ library tree. expands_to_bare library tree

@@ -1,4 +1,4 @@
-use Rattle.std.proofs.Common.{◌≡◌, ℕ, ◌+◌, ◌<◌, List, length, drop, get_or, add-one, subst, sym, drop-cons, drop_of_length-le}
+use Rattle.std.proofs.Common.{ℕ, ◌+◌, ◌<◌, List, length, drop, get_or, add-one, subst, sym, drop-cons, drop_of_length-le}
 use Rattle.std.specs.List.{AllByRecursion}
 use Rattle.sml_tree.specs.declared.tree_node.TreeNode.{TreeNode}
 use Rattle.expansion_laws.specs.Laws.{CharFits}

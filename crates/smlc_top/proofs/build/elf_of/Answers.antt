@@ -1,6 +1,6 @@
 use Rattle.std.proofs.Common.{ap}
 use Rattle.elf_static.specs.declared.image.Image.{Image}
-use Rattle.smlc_top.proofs.Bounds.{written-short}
+use Rattle.print_code.proofs.Bounds.{written-short}
 use Rattle.smlc_top.proofs.build.elf_of.Goals as goal
 
 pub returns-in-Ok-write_elf : goal.returns-in-Ok-write_elf

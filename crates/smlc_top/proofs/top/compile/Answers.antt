@@ -2,7 +2,7 @@ use Rattle.std.proofs.Common.{ℕ, length, arith, ap, refl, ◌∙◌, subst}
 use Rattle.std.specs.Prelude.{map}
 use Rattle.std.proofs.lemmas.List.{length-map}
 use Rattle.smlc_edge.specs.Edge.{Fails}
-use Rattle.smlc_top.specs.declared.outcome.Outcome.TheVariants as outcome
+use Rattle.smlc_jobs.specs.declared.outcome.Outcome.TheVariants as outcome
 use Rattle.smlc_top.specs.Clause.{compiled, fine, want, load_failed, save_failed}
 use Rattle.smlc_top.proofs.Jobs.{compile_said, has_saved, changes_only}
 use Rattle.smlc_top.proofs.top.compile.Goals as goal

@@ -1,10 +1,10 @@
 use Rattle.std.proofs.Common.{ℕ, List, sym, subst}
 use Rattle.std.specs.Prelude.{map}
 use Rattle.std.specs.Borrow.{Bor}
-use Rattle.smlc_top.specs.Job.{RunFiles, CompileFiles, ExecFile, TypesFiles, IsAsked}
-use Rattle.smlc_top.specs.Clause.{tally}
+use Rattle.smlc_jobs.specs.Job.{RunFiles, CompileFiles, ExecFile, TypesFiles, GenText, IsAsked}
+use Rattle.smlc_jobs.specs.Runs.{tally}
 use Rattle.smlc_top.proofs.Answering.{reported}
-use Rattle.smlc_top.proofs.Faults.{came_none}
+use Rattle.smlc_jobs.proofs.Faults.{came_none}
 use Rattle.smlc_top.proofs.top.do_job.Goals as goal
 
 pub returns-in-Run-clause-answer : goal.returns-in-Run-clause-answer
@@ -39,3 +39,13 @@ returns-in-Types-clause-answer g c = λ words asked.
     (tally (g.F.Store.faults c.types-outcome.new.store) i (g.O.Sink.faults c.types-outcome.new.out) e) (g.I.Source.left c.args.input.now) (g.E.Sink.faults c.report-in-Types.new.err) c.report-in-Types.result
     (g.O.Sink.taken c.args.out.now) (g.O.Sink.taken c.types-outcome.new.out) (g.E.Sink.taken c.args.err.now) (g.E.Sink.taken c.args.err.now) (g.E.Sink.taken c.report-in-Types.new.err) c.types-outcome.result (subst (λ (xs : List (Bor (List ℕ))). IsAsked words (TypesFiles (map (λ x. x.now) xs))) (sym c.as_slice-names-in-Types.ensures.value) (rw c.in-Types.is at asked))
     (c.types-outcome.ensures.performed i e (g.I.Source.left c.args.input.now) (g.E.Sink.taken c.args.err.now)) c.report-in-Types.ensures.said
+
+pub returns-in-Gen-clause-answer : goal.returns-in-Gen-clause-answer
+returns-in-Gen-clause-answer g c = λ words asked.
+    let store = g.F.Store.faults c.args.store.now in
+    let i = g.I.Source.faults c.args.input.now in
+    let e = g.E.Sink.faults c.args.err.now in
+    reported words (g.F.Store.files c.args.store.now) (g.F.Store.files c.args.store.now) (GenText c.in-Gen.number c.in-Gen.size) (tally store i (g.O.Sink.faults c.args.out.now) e)
+    (tally store i (g.O.Sink.faults c.generate-outcome.new.out) e) (g.I.Source.left c.args.input.now) (g.E.Sink.faults c.report-in-Gen.new.err) c.report-in-Gen.result
+    (g.O.Sink.taken c.args.out.now) (g.O.Sink.taken c.generate-outcome.new.out) (g.E.Sink.taken c.args.err.now) (g.E.Sink.taken c.args.err.now) (g.E.Sink.taken c.report-in-Gen.new.err) c.generate-outcome.result (rw c.in-Gen.is at asked)
+    (c.generate-outcome.ensures.performed store i e (g.F.Store.files c.args.store.now) (g.I.Source.left c.args.input.now) (g.E.Sink.taken c.args.err.now)) c.report-in-Gen.ensures.said

@@ -1,8 +1,9 @@
 use Rattle.std.proofs.Common.{ℕ, refl, sym, subst}
-use Rattle.smlc_top.specs.Job.{ExecFile}
-use Rattle.smlc_top.specs.Clause.{tally, Performed, want, load_failed}
-use Rattle.smlc_top.proofs.Faults.{came_none, came_so}
-use Rattle.smlc_top.proofs.Held.{first_fails}
+use Rattle.smlc_jobs.specs.Job.{ExecFile}
+use Rattle.smlc_top.specs.Clause.{Performed, want, load_failed}
+use Rattle.smlc_jobs.specs.Runs.{tally}
+use Rattle.smlc_jobs.proofs.Faults.{came_none, came_so}
+use Rattle.smlc_jobs.proofs.Held.{first_fails}
 use Rattle.smlc_top.proofs.Jobs.{exec_executed}
 use Rattle.smlc_top.proofs.top.exec.Goals as goal
 

@@ -1,10 +1,11 @@
 use Rattle.std.proofs.Common.{ℕ, length, arith, ap, refl, sym, subst}
 use Rattle.std.specs.Prelude.{map}
 use Rattle.std.proofs.lemmas.List.{length-map}
-use Rattle.smlc_top.specs.Job.{RunFiles}
-use Rattle.smlc_top.specs.Outcome.{ended_outcome}
-use Rattle.smlc_top.specs.Clause.{tally, Performed, want, load_failed}
-use Rattle.smlc_top.proofs.Faults.{came_none, came_so}
+use Rattle.smlc_jobs.specs.Job.{RunFiles}
+use Rattle.smlc_jobs.specs.Outcome.{ended_outcome}
+use Rattle.smlc_top.specs.Clause.{Performed, want, load_failed}
+use Rattle.smlc_jobs.specs.Runs.{tally}
+use Rattle.smlc_jobs.proofs.Faults.{came_none, came_so}
 use Rattle.smlc_top.proofs.Jobs.{run_executed, run_said}
 use Rattle.smlc_top.proofs.top.run.Goals as goal
 

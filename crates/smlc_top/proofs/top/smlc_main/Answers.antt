@@ -1,9 +1,10 @@
 use Rattle.std.specs.Prelude.{map, string_bytes}
-use Rattle.smlc_top.specs.Texts.{usage_line, memory_line}
-use Rattle.smlc_top.specs.Clause.{tally, no_command, no_memory}
-use Rattle.smlc_top.specs.Job.{job_of}
+use Rattle.smlc_jobs.specs.Texts.{usage_line, memory_line}
+use Rattle.smlc_top.specs.Clause.{no_command, no_memory}
+use Rattle.smlc_jobs.specs.Runs.{tally}
+use Rattle.smlc_jobs.specs.Job.{job_of}
 use Rattle.smlc_top.proofs.Answering.{said_plain}
-use Rattle.smlc_top.proofs.Jobs.{few_asked}
+use Rattle.smlc_jobs.proofs.Asked.{few_asked}
 use Rattle.smlc_top.proofs.top.smlc_main.Goals as goal
 
 pub do_job-requires : goal.do_job-requires

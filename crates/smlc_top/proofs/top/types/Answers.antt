@@ -2,7 +2,7 @@ use Rattle.std.proofs.Common.{length, arith, ap, refl}
 use Rattle.std.specs.Prelude.{map}
 use Rattle.std.proofs.lemmas.List.{length-map}
 use Rattle.smlc_top.specs.Clause.{want, load_failed}
-use Rattle.smlc_top.proofs.Faults.{came_none}
+use Rattle.smlc_jobs.proofs.Faults.{came_none}
 use Rattle.smlc_top.proofs.Jobs.{types_said, types_written, types_cut}
 use Rattle.smlc_top.proofs.top.types.Goals as goal
 

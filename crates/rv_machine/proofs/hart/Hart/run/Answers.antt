@@ -2,7 +2,7 @@ use Rattle.std.proofs.Common.{[], ◌++◌, refl, ◌∙◌, arith}
 use Rattle.smlc_edge.proofs.Gained.{gains_none, gains_more}
 use Rattle.rv_machine.specs.Run.{counted_of}
 use Rattle.rv_machine.specs.View.{state}
-use Rattle.rv_machine.proofs.Behaviour.{Ran-none, counted_of-le}
+use Rattle.rv_machine.proofs.Behaviour.{Ran-none, counted_of-le, counted_of-fewer}
 use Rattle.rv_machine.proofs.hart.Hart.run.Goals as goal
 
 pub loop-init : goal.loop-init
@@ -25,6 +25,7 @@ returns-in-Some-clause-runs g c =
       count = counted_of c.in-Some.end c.loop.counter;
       within = counted_of-le c.in-Some.end c.loop.counter c.args.steps (omega arith);
       all = λ k. absurd (c.in-Some.ensures.ended k);
+      fewer = counted_of-fewer c.in-Some.end c.loop.counter c.args.steps (omega arith);
       reached = r.0;
       wrote = f.0 ++ w.wrote;
       wrote_err = f.1 ++ w.wrote_err;

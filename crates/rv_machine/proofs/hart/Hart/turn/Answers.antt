@@ -55,7 +55,7 @@ returns-in-Err-clause-turns g c = record {
       let r = c.in-Err.ensures.told h.known h.knows in (
         state c.args.self.now,
         Ran-fault n b first (g.I.Source.left c.args.input.now) (state c.args.self.now) o e h (g.I.Source.left c.serve_read.new.input) r.1,
-        Scratched-first h.known first (state c.args.self.now) (state c.serve_read.new.self) h.told (rw c.in-Read.ensures.kept at r.0),
+        (c.in-Read.at, c.in-Read.size, ap (λ (o : Next × State). o.0) (sym c.in-Read.ensures.value), Scratched-first c.in-Read.at c.in-Read.size h.known first (state c.args.self.now) (state c.serve_read.new.self) h.told (rw c.in-Read.ensures.kept at r.0)),
         (c.in-Read.at, c.in-Read.size, ap (λ (o : Next × State). o.0) (sym c.in-Read.ensures.value)),
       );
 }

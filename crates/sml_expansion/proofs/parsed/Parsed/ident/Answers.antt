@@ -7,4 +7,4 @@ pub returns : goal.returns
 returns c t h =
     let u = c.loop-at.invariant t h in
     let other : c.node-node.result ≢ node.Op = search rules in
-    sym (u.1.1 ∙ ident_is c.args.self.now c.loop-at.at u.0 c.node-node.result _ _ _ u.1.0 c.node-node.ensures other c.key_of.ensures c.is_long.ensures (c.place.ensures u.0 u.1.0))
+    sym (u.1.1 ∙ ident_is c.args.self.now c.loop-at.at u.0 c.node-node.result _ _ _ u.1.0 c.node-node.ensures other c.key_of.ensures c.is_barred.ensures (c.place-place.ensures u.0 u.1.0))

@@ -1,0 +1,4 @@
+pub mod Sets
+pub mod Steps
+pub mod Unfold
+pub mod Table

@@ -1,0 +1,5 @@
+use Rattle.closed_live.proofs.Sets.{removed}
+use Rattle.closed_live.proofs.set.remove.Goals as goal
+
+pub returns : goal.returns
+returns c = removed c.args.x c.args.set.now.keys c.remove.new.self.keys c.remove.ensures.updates.0

@@ -1,0 +1,11 @@
+use Rattle.std.proofs.Common.{sym, subst}
+use Rattle.cps_ir.specs.Program.{tree_of}
+use Rattle.label_order.specs.Order.{AreApart}
+use Rattle.closure_plan.proofs.Apart.{slim_apart}
+use Rattle.closure_plan.proofs.whole.make_plan.Goals as goal
+
+pub found-requires : goal.found-requires
+found-requires c = slim_apart (tree_of c.args.program.now) c.requires
+
+pub measured-requires-clause-apart : goal.measured-requires-clause-apart
+measured-requires-clause-apart c = subst AreApart (sym c.in_ok-known.ensures.functions) (slim_apart (tree_of c.args.program.now) c.requires)

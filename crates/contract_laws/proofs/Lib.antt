@@ -1,0 +1,17 @@
+pub mod Relation
+pub mod Sees
+pub mod Seeing
+pub mod States
+pub mod Group
+pub mod Steps
+pub mod Free
+pub mod Reaches
+pub mod Keep
+pub mod Tests
+pub mod Count
+pub mod Compare
+pub mod Rounds
+pub mod Prims
+pub mod Examples
+pub mod Pigeon
+pub mod Linear

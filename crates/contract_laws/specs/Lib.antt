@@ -1,0 +1,4 @@
+pub mod Contract
+pub mod Redex
+pub mod Weigh
+pub mod Law

@@ -1,0 +1,3 @@
+pub mod Vars
+pub mod Fronts
+pub mod Law

@@ -1,0 +1,10 @@
+pub mod Facts
+pub mod Walked
+pub mod Agrees
+pub mod Group
+pub mod Roles
+pub mod Names
+pub mod Walks
+pub mod Counts
+pub mod RoundLaw
+pub mod Ends

@@ -1,0 +1,4 @@
+pub mod Down
+pub mod Rules
+pub mod Begun
+pub mod Backwards

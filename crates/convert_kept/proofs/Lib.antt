@@ -1,0 +1,4 @@
+pub mod Forms
+pub mod Terms
+pub mod Closed
+pub mod Kept

@@ -1,0 +1,11 @@
+pub mod Grow
+pub mod Write
+pub mod Ended
+pub mod Part
+pub mod Rowed
+pub mod Matched
+pub mod Entered
+pub mod Closed
+pub mod Resumed
+pub mod Handled
+pub mod Excepted

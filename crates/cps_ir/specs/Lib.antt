@@ -1,0 +1,9 @@
+pub mod Code
+pub mod Program
+pub mod Free
+pub mod Kept
+pub mod Slim
+pub mod State
+pub mod Tests
+pub mod Step
+pub mod Run

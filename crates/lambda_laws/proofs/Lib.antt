@@ -1,0 +1,14 @@
+pub mod Insensitive
+pub mod Steps
+pub mod Keeps
+pub mod Sets
+pub mod FreeSame
+pub mod TypedReady
+pub mod TypedMet
+pub mod TypedEqual
+pub mod Proper
+pub mod Whole
+pub mod Counts
+pub mod Once
+pub mod Programs
+pub mod Sizes

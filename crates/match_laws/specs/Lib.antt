@@ -1,0 +1,4 @@
+pub mod Compile
+pub mod Shape
+pub mod Suit
+pub mod Law

@@ -1,0 +1,15 @@
+pub mod Places
+pub mod Bounds
+pub mod Spilled
+pub mod Values
+pub mod Heap
+pub mod Shown
+pub mod Sees
+pub mod Meant
+pub mod Reading
+pub mod Writing
+pub mod Relation
+pub mod Naming
+pub mod Comparing
+pub mod Steps
+pub mod Keeps

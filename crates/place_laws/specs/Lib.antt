@@ -1,0 +1,4 @@
+pub mod Live
+pub mod Place
+pub mod Bounds
+pub mod Lies

@@ -1,0 +1,3 @@
+pub mod Keyed
+pub mod Sums
+pub mod Best

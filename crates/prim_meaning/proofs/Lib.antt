@@ -1,0 +1,7 @@
+pub mod Alike
+pub mod Letters
+pub mod Meant
+pub mod Holds
+pub mod Ways
+pub mod Pointwise
+pub mod StrictSame

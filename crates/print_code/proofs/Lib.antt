@@ -1,0 +1,14 @@
+pub mod Chain
+pub mod Pieces
+pub mod Fetch
+pub mod FitsCode
+pub mod Ends
+pub mod Loadable
+pub mod Images
+pub mod Single
+pub mod Reach
+pub mod Straight
+pub mod Exec
+pub mod Nests
+pub mod Walks
+pub mod Bounds

@@ -1,0 +1,5 @@
+pub mod Code
+pub mod Prints
+pub mod Plain
+pub mod Reading
+pub mod Laws

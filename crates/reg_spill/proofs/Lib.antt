@@ -1,0 +1,12 @@
+pub mod Offsets
+pub mod Taken
+pub mod Names
+pub mod Alive
+pub mod Along
+pub mod Begun
+pub mod Apart
+pub mod Placing
+pub mod Params
+pub mod Standing
+pub mod Spilling
+pub mod Recorded

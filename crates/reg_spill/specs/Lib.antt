@@ -1,0 +1,4 @@
+pub mod Frames
+pub mod Homed
+pub mod Leads
+pub mod Spills

@@ -1,0 +1,17 @@
+pub mod Strings
+pub mod CopyBytes
+pub mod CopyWords
+pub mod Makes
+pub mod Keeping
+pub mod Concat
+pub mod PrintString
+pub mod Joining
+pub mod Pairs
+pub mod Turn
+pub mod Ending
+pub mod Indexing
+pub mod Comparing
+pub mod Raising
+pub mod Telling
+pub mod Leaving
+pub mod Soon

@@ -1,0 +1,12 @@
+pub mod Places
+pub mod Strings
+pub mod Copy
+pub mod Concat
+pub mod Print
+pub mod Equal
+pub mod Ends
+pub mod Index
+pub mod Compare
+pub mod Raise
+pub mod Errors
+pub mod Uncaught

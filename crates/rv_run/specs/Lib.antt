@@ -1,0 +1,5 @@
+pub mod Heap
+pub mod Counted
+pub mod Seen
+pub mod Run
+pub mod Laws

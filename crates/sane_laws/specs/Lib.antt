@@ -1,0 +1,4 @@
+pub mod Uses
+pub mod Sane
+pub mod Flow
+pub mod Laws

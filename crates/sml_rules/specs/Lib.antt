@@ -1,0 +1,5 @@
+pub mod Terms
+pub mod Patterns
+pub mod Apply
+pub mod Rules
+pub mod Agree

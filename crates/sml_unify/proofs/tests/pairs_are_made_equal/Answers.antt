@@ -1,4 +1,0 @@
-use Rattle.sml_unify.proofs.tests.pairs_are_made_equal.Goals as goal
-
-pub unify-answer-requires-clause-bindings : goal.unify-answer-requires-clause-bindings
-unify-answer-requires-clause-bindings o c = c.new-subst.ensures.bindings _

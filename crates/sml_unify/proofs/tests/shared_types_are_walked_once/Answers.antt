@@ -1,4 +1,0 @@
-use Rattle.sml_unify.proofs.tests.shared_types_are_walked_once.Goals as goal
-
-pub unify-answer-requires-clause-bindings : goal.unify-answer-requires-clause-bindings
-unify-answer-requires-clause-bindings o c = c.new-subst.ensures.bindings _

@@ -1,8 +1,0 @@
-use Rattle.std.proofs.Common.{◌<◌, ◌≤◌, length}
-use Rattle.sml_unify.proofs.tests.tower.Given as goal
-
-abbrev pub invariant-levels : goal.invariant-levels
-invariant-levels l = record {
-  there : l.top.0 < length l.types;
-  longer : length l.fn.types ≤ length l.types;
-}

@@ -1,0 +1,58 @@
+-- Runs of an image, and what is counted of the outside.
+use Rattle.std.specs.Prelude.{ℕ, ◌≡◌, ◌≤◌, List, [], Option}
+use Rattle.smlc_edge.specs.Edge.{Gains}
+use Rattle.elf_static.specs.declared.image.Image.{Image}
+use Rattle.rv_machine.specs.Load.{loaded}
+use Rattle.rv_machine.specs.Run.{World, Cut, Mend, Runs, behaviour}
+
+-- ---- counts of faults
+
+-- how often store, input, out and err failed
+pub record Tally : Type 0 where
+  pub store : ℕ
+  pub input : ℕ
+  pub out : ℕ
+  pub err : ℕ
+
+abbrev pub tally : ℕ → ℕ → ℕ → ℕ → Tally
+tally store input out err = record { store = store; input = input; out = out; err = err }
+
+-- no count moved
+pub record IsSame (before now : Tally) : Type 0 where
+  pub store : now.store ≡ before.store
+  pub input : now.input ≡ before.input
+  pub out : now.out ≡ before.out
+  pub err : now.err ≡ before.err
+
+-- ---- runs
+
+abbrev pub begun : Image → Option (List ℕ) → World
+begun image input = record { state = loaded image; input = input; out = []; err = [] }
+
+-- so many instructions of the image were done at the most, and all of them where it goes on; it has written this
+pub record IsRun (image : Image) (input : Option (List ℕ)) (steps : ℕ) (mend : Mend) (out err : List ℕ) : Type 0 where
+  pub count : ℕ
+  pub within : count ≤ steps
+  pub all : mend ≡ Runs → count ≡ steps
+  pub cuts : List Cut
+  pub ends : (behaviour count (begun image input) cuts).mend ≡ mend
+  pub wrote : (behaviour count (begun image input) cuts).world.out ≡ out
+  pub wrote_err : (behaviour count (begun image input) cuts).world.err ≡ err
+
+-- it goes on, and has written this
+pub record IsMidway (image : Image) (input : Option (List ℕ)) (out err : List ℕ) : Type 0 where
+  pub count : ℕ
+  pub cuts : List Cut
+  pub goes_on : (behaviour count (begun image input) cuts).mend ≡ Runs
+  pub wrote : (behaviour count (begun image input) cuts).world.out ≡ out
+  pub wrote_err : (behaviour count (begun image input) cuts).world.err ≡ err
+
+-- ---- calls
+
+-- what was written on out and err, and what is said of it
+pub record Came (out out_now err err_now : Option (List ℕ)) (Says : List ℕ → List ℕ → Type 0) : Type 0 where
+  pub wrote : List ℕ
+  pub wrote_err : List ℕ
+  pub gains : Gains out out_now wrote
+  pub gains_err : Gains err err_now wrote_err
+  pub says : Says wrote wrote_err

@@ -1,8 +1,0 @@
-//! Laws of the definitions.
-
-ghost use Rattle.smlc_top.specs.Laws.{OneMeaning};
-
-/// A bare tree says at most one text, stops at one place at most, and not both.
-pub fn trees_mean_one_thing()
-    ensures { OneMeaning }
-{}
