@@ -14,7 +14,10 @@ pub enum Found {
     /// In this variable.
     Here(Variable),
     /// In a field of the closure that is in a variable.
-    Field { closure: Variable, field: u32 },
+    Field {
+        closure: Variable,
+        field: u32,
+    },
     /// In a field of the record that is in a field of the closure.
     Shared {
         closure: Variable,

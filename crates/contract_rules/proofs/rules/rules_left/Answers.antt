@@ -18,6 +18,6 @@ returns c =
     record {
       is = c.left_of_rules.ensures;
       walk = IfOk-weaker c.left_of_rules.result (λ l. l ≡ rules_known texts σ τ a rules o) (λ l. AreRulesLeft texts σ τ a rules o l)
-    (λ l e ι part. rules_are texts σ τ a ι part rules o ∙ sym (ap (λ k. rules_of (λ i. walk texts (known σ τ ι) (part i)) k.rules k.otherwise) e))
-    c.left_of_rules.ensures;
+          (λ l e ι part. rules_are texts σ τ a ι part rules o ∙ sym (ap (λ k. rules_of (λ i. walk texts (known σ τ ι) (part i)) k.rules k.otherwise) e))
+          c.left_of_rules.ensures;
     }
