@@ -1,5 +1,5 @@
 -- counts of faults, and the parts of the top call put together
-use Rattle.std.proofs.Common.{◌≡◌, inl, inr, ℕ, List, [], Option, Some, arith, refl}
+use Rattle.std.proofs.Common.{◌≡◌, inl, inr, ℕ, ◌≤◌, List, [], Option, Some, arith, refl}
 use Rattle.smlc_edge.specs.Edge.{Rose, Fails}
 use Rattle.smlc_edge.proofs.Gained.{gains_none}
 use Rattle.rv_machine.specs.Run.{CountsAt}
@@ -13,6 +13,11 @@ same_counts store i i' o o' e e' h = record { store = refl; input = h.0; out = h
 pub err_failed : (i i' o o' e e' : ℕ) → CountsAt (Some ended.WriteFault) i i' o o' e e' → (Rose o o' → ⊥) → Fails e e'
 err_failed i i' o o' e e' (same, inl f) never = absurd (never f.0.1)
 err_failed i i' o o' e e' (same, inr f) never = f.1
+
+-- where a write failed the count of err fell in no case
+pub err_stands : (i i' o o' e e' : ℕ) → CountsAt (Some ended.WriteFault) i i' o o' e e' → e ≤ e'
+err_stands i i' o o' e e' (same, inl f) = let h = f.1 in omega (arith, h)
+err_stands i i' o o' e e' (same, inr f) = f.1.0
 
 pub rose_same : (a b a' b' : ℕ) → a ≡ a' → b ≡ b' → Rose a b → Rose a' b'
 rose_same a b a' b' p q h = omega (arith, h)

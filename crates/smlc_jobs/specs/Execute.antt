@@ -1,5 +1,5 @@
 -- What the run of an image, and of the bytes of an ELF file, comes to.
-use Rattle.std.specs.Prelude.{ℕ, ◌≡◌, List, [], Option, Ok, Err}
+use Rattle.std.specs.Prelude.{ℕ, ◌≡◌, ◌≤◌, List, [], Ok, Err}
 use Rattle.smlc_edge.specs.Edge.{Rose, Fails}
 use Rattle.elf_static.specs.declared.image.Image.{Image}
 use Rattle.elf_static.specs.declared.error.ElfKind.{ElfKind}
@@ -9,23 +9,23 @@ use Rattle.elf_static.specs.Reading.{meaning_of}
 use Rattle.rv_machine.specs.Run.{Runs, Exited, Trapped}
 use Rattle.smlc_jobs.specs.declared.outcome.Outcome.{Outcome}
 use Rattle.smlc_jobs.specs.declared.outcome.Outcome.TheVariants as outcome
-use Rattle.smlc_jobs.specs.Runs.{Tally, IsSame, IsRun, IsMidway}
+use Rattle.smlc_jobs.specs.Runs.{Tally, IsSame, Intake, TakesNothing, IsRun, IsMidway}
 
 -- an image was run
-pub data RanImage (image : Image) (steps : ℕ) (before after : Tally) (input : Option (List ℕ)) (out err : List ℕ) : Outcome → Type 0 where
+pub data RanImage (image : Image) (steps : ℕ) (before after : Tally) (input : Intake) (out err : List ℕ) : Outcome → Type 0 where
   exited : (status : ℕ) → IsRun image input steps (Exited status) out err → IsSame before after → RanImage image steps before after input out err (outcome.Exited status)
   went_on : IsRun image input steps Runs out err → IsSame before after → RanImage image steps before after input out err (outcome.Steps steps)
   trapped : (pc word : ℕ) → IsRun image input steps (Trapped pc word) out err → IsSame before after → RanImage image steps before after input out err (outcome.Trapped pc word)
-  had_no_memory : out ≡ [] → err ≡ [] → IsSame before after → RanImage image steps before after input out err outcome.NoMemory
-  input_fault : Fails before.input after.input → IsMidway image input out err → RanImage image steps before after input out err outcome.InputFault
-  out_fault : Rose before.out after.out → IsMidway image input out err → RanImage image steps before after input out err outcome.OutFault
-  err_fault : Fails before.err after.err → IsMidway image input out err → RanImage image steps before after input out err outcome.ErrFault
+  had_no_memory : out ≡ [] → err ≡ [] → TakesNothing input → IsSame before after → RanImage image steps before after input out err outcome.NoMemory
+  input_fault : Fails before.input after.input → before.err ≤ after.err → IsMidway image input steps out err → RanImage image steps before after input out err outcome.InputFault
+  out_fault : Rose before.out after.out → before.err ≤ after.err → IsMidway image input steps out err → RanImage image steps before after input out err outcome.OutFault
+  err_fault : Fails before.err after.err → IsMidway image input steps out err → RanImage image steps before after input out err outcome.ErrFault
 
 -- the bytes of an ELF file were read, and its image was run
-pub data Executed (bytes : List ℕ) (steps : ℕ) (before after : Tally) (input : Option (List ℕ)) (out err : List ℕ) : Outcome → Type 0 where
+pub data Executed (bytes : List ℕ) (steps : ℕ) (before after : Tally) (input : Intake) (out err : List ℕ) : Outcome → Type 0 where
   of_image : (image : Image) (o : Outcome) → meaning_of bytes ≡ Ok image → RanImage image steps before after input out err o → Executed bytes steps before after input out err o
-  not_read : (kind : ElfKind) (at : ℕ) → meaning_of bytes ≡ Err (elf.NotElf kind at) → out ≡ [] → err ≡ [] → IsSame before after → Executed bytes steps before after input out err (outcome.NotElf kind at)
-  read_memory : out ≡ [] → err ≡ [] → IsSame before after → Executed bytes steps before after input out err outcome.NoMemory
+  not_read : (kind : ElfKind) (at : ℕ) → meaning_of bytes ≡ Err (elf.NotElf kind at) → out ≡ [] → err ≡ [] → TakesNothing input → IsSame before after → Executed bytes steps before after input out err (outcome.NotElf kind at)
+  read_memory : out ≡ [] → err ≡ [] → TakesNothing input → IsSame before after → Executed bytes steps before after input out err outcome.NoMemory
 
 -- the outcome of a file that wasn't read
 abbrev pub unread : ElfError → Outcome

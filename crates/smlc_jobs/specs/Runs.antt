@@ -1,9 +1,9 @@
 -- Runs of an image, and what is counted of the outside.
-use Rattle.std.specs.Prelude.{ℕ, ◌≡◌, ◌≤◌, List, [], Option}
+use Rattle.std.specs.Prelude.{ℕ, ◌≡◌, ◌≤◌, ◌<◌, List, [], Option}
 use Rattle.smlc_edge.specs.Edge.{Gains}
 use Rattle.elf_static.specs.declared.image.Image.{Image}
 use Rattle.rv_machine.specs.Load.{loaded}
-use Rattle.rv_machine.specs.Run.{World, Cut, Mend, Runs, behaviour}
+use Rattle.rv_machine.specs.Run.{World, Cut, Mend, Runs, Knows, behaviour}
 
 -- ---- counts of faults
 
@@ -24,28 +24,45 @@ pub record IsSame (before now : Tally) : Type 0 where
   pub out : now.out ≡ before.out
   pub err : now.err ≡ before.err
 
+-- ---- input
+
+-- what the input tells before a job, and what it tells after it
+pub record Intake : Type 0 where
+  pub before : Option (List ℕ)
+  pub left : Option (List ℕ)
+
+abbrev pub intake : Option (List ℕ) → Option (List ℕ) → Intake
+intake before left = record { before = before; left = left }
+
+-- the job took nothing of it
+abbrev pub TakesNothing : Intake → Type 0
+TakesNothing input = Knows input.before input.left
+
 -- ---- runs
 
 abbrev pub begun : Image → Option (List ℕ) → World
 begun image input = record { state = loaded image; input = input; out = []; err = [] }
 
--- so many instructions of the image were done at the most, and all of them where it goes on; it has written this
-pub record IsRun (image : Image) (input : Option (List ℕ)) (steps : ℕ) (mend : Mend) (out err : List ℕ) : Type 0 where
+-- so many instructions of the image were done at the most, and all of them where it goes on; it has written this, and the input has left what it didn't take
+pub record IsRun (image : Image) (input : Intake) (steps : ℕ) (mend : Mend) (out err : List ℕ) : Type 0 where
   pub count : ℕ
   pub within : count ≤ steps
   pub all : mend ≡ Runs → count ≡ steps
   pub cuts : List Cut
-  pub ends : (behaviour count (begun image input) cuts).mend ≡ mend
-  pub wrote : (behaviour count (begun image input) cuts).world.out ≡ out
-  pub wrote_err : (behaviour count (begun image input) cuts).world.err ≡ err
+  pub ends : (behaviour count (begun image input.before) cuts).mend ≡ mend
+  pub wrote : (behaviour count (begun image input.before) cuts).world.out ≡ out
+  pub wrote_err : (behaviour count (begun image input.before) cuts).world.err ≡ err
+  pub left : Knows (behaviour count (begun image input.before) cuts).world.input input.left
 
--- it goes on, and has written this
-pub record IsMidway (image : Image) (input : Option (List ℕ)) (out err : List ℕ) : Type 0 where
+-- fewer instructions were done, it goes on, and has written this, and the input has left what it didn't take
+pub record IsMidway (image : Image) (input : Intake) (steps : ℕ) (out err : List ℕ) : Type 0 where
   pub count : ℕ
+  pub fewer : count < steps
   pub cuts : List Cut
-  pub goes_on : (behaviour count (begun image input) cuts).mend ≡ Runs
-  pub wrote : (behaviour count (begun image input) cuts).world.out ≡ out
-  pub wrote_err : (behaviour count (begun image input) cuts).world.err ≡ err
+  pub goes_on : (behaviour count (begun image input.before) cuts).mend ≡ Runs
+  pub wrote : (behaviour count (begun image input.before) cuts).world.out ≡ out
+  pub wrote_err : (behaviour count (begun image input.before) cuts).world.err ≡ err
+  pub left : Knows (behaviour count (begun image input.before) cuts).world.input input.left
 
 -- ---- calls
 

@@ -5,7 +5,7 @@ ghost use Rattle.smlc_edge.specs.Edge.{Rose};
 ghost use Rattle.elf_static.specs.Load.{IsLoadable};
 ghost use Rattle.elf_static.specs.Reading.{meaning_of};
 ghost use Rattle.smlc_jobs.specs.Outcome.{is_fault};
-ghost use Rattle.smlc_jobs.specs.Runs.{tally, Came};
+ghost use Rattle.smlc_jobs.specs.Runs.{tally, intake, Came};
 ghost use Rattle.smlc_jobs.specs.Execute.{RanImage, Executed, unread};
 
 use crate::outcome::Outcome;
@@ -25,7 +25,7 @@ pub fn execute<I: Source, O: Sink, E: Sink>(
 ) -> Outcome
     ensures executed { (store : ℕ) → Came (O.taken out.old) (O.taken out.new) (E.taken err.old) (E.taken err.new) (λ wrote wrote_err.
         Executed bytes.now steps (tally store (I.faults input.old) (O.faults out.old) (E.faults err.old))
-        (tally store (I.faults input.new) (O.faults out.new) (E.faults err.new)) (I.left input.old) wrote wrote_err result) }
+        (tally store (I.faults input.new) (O.faults out.new) (E.faults err.new)) (intake (I.left input.old) (I.left input.new)) wrote wrote_err result) }
     ensures sure { I.sure input.old → O.sure out.old → E.sure err.old → (is_fault result ≡ false) × E.sure err.new }
 {
     match read_elf(alloc, bytes) {
@@ -55,7 +55,7 @@ fn run_image<I: Source, O: Sink, E: Sink>(
     requires { IsLoadable image.now }
     ensures ran { (store : ℕ) → Came (O.taken out.old) (O.taken out.new) (E.taken err.old) (E.taken err.new) (λ wrote wrote_err.
         RanImage image.now steps (tally store (I.faults input.old) (O.faults out.old) (E.faults err.old))
-        (tally store (I.faults input.new) (O.faults out.new) (E.faults err.new)) (I.left input.old) wrote wrote_err result) }
+        (tally store (I.faults input.new) (O.faults out.new) (E.faults err.new)) (intake (I.left input.old) (I.left input.new)) wrote wrote_err result) }
     ensures sure { I.sure input.old → O.sure out.old → E.sure err.old → (is_fault result ≡ false) × E.sure err.new }
 {
     let Ok(mut machine) = Machine::load(alloc, image) else {

@@ -1,5 +1,5 @@
 -- jobs from their parts
-use Rattle.std.proofs.Common.{◌≡◌, ℕ, ◌+◌, ◌*◌, List, [], length, Option, Some, Ok, Err, refl, sym, subst}
+use Rattle.std.proofs.Common.{◌≡◌, ℕ, ◌+◌, ◌*◌, List, [], length, Option, Some, Ok, Err, arith, refl, sym, subst}
 use Rattle.std.specs.declared.vec.Vec.{Vec}
 use Rattle.std.specs.declared.alloc.Global.{Global}
 use Rattle.smlc_base.specs.declared.refusal.Refusal.{Refusal}
@@ -22,24 +22,24 @@ use Rattle.smlc_top.specs.Build.{IsElfOf}
 use Rattle.smlc_jobs.specs.Execute.{RanImage, exited, went_on, trapped, had_no_memory, input_fault, out_fault, err_fault, Executed, of_image, not_read, read_memory}
 use Rattle.smlc_jobs.specs.Held.{IsHeld, AreHeld, KeepsFiles, ChangesOnly, HasSaved}
 use Rattle.smlc_top.specs.Clause.{Means, IsRefused, Compiles, Comes, ran, stopped, run_refused, compile_refused, exec_exited, exec_stopped, exec_trapped, exec_not_elf, Midway, running, executing, in_run, in_types, in_gen, generated, typed, types_refused, Performed, fine, want, read_failed, write_failed, error_failed}
-use Rattle.smlc_jobs.specs.Runs.{Tally, IsSame, IsRun, IsMidway, Came, tally}
+use Rattle.smlc_jobs.specs.Runs.{Tally, IsSame, Intake, intake, TakesNothing, IsRun, IsMidway, Came, tally}
 use Rattle.print_code.proofs.Ends.{Concludes, prints_concludes}
 
 -- ---- `run`
 
-run_concludes : (text : List ℕ) (image : Image) (input : Option (List ℕ)) (steps : ℕ) (m : Mend) (w e : List ℕ) → Compiles text image → IsRun image input steps m w e → Concludes m text w e
-run_concludes text image input steps m w e compiles r = prints_concludes image text (64 * (1 + length text)) input m r.count r.cuts w e compiles.prints r.ends r.wrote r.wrote_err
+run_concludes : (text : List ℕ) (image : Image) (input : Intake) (steps : ℕ) (m : Mend) (w e : List ℕ) → Compiles text image → IsRun image input steps m w e → Concludes m text w e
+run_concludes text image input steps m w e compiles r = prints_concludes image text (64 * (1 + length text)) input.before m r.count r.cuts w e compiles.prints r.ends r.wrote r.wrote_err
 
-midway_concludes : (text : List ℕ) (image : Image) (input : Option (List ℕ)) (w e : List ℕ) → Compiles text image → IsMidway image input w e → Concludes Runs text w e
-midway_concludes text image input w e compiles r = prints_concludes image text (64 * (1 + length text)) input Runs r.count r.cuts w e compiles.prints r.goes_on r.wrote r.wrote_err
+midway_concludes : (text : List ℕ) (image : Image) (input : Intake) (steps : ℕ) (w e : List ℕ) → Compiles text image → IsMidway image input steps w e → Concludes Runs text w e
+midway_concludes text image input steps w e compiles r = prints_concludes image text (64 * (1 + length text)) input.before Runs r.count r.cuts w e compiles.prints r.goes_on r.wrote r.wrote_err
 
-module _ (names : List (List ℕ)) (told kept : Option Files) (steps : ℕ) (files : List (List ℕ)) (text : List ℕ) (image : Image) (t t' : Tally) (input : Option (List ℕ)) (w e : List ℕ)
+module _ (names : List (List ℕ)) (told kept : Option Files) (steps : ℕ) (files : List (List ℕ)) (text : List ℕ) (image : Image) (t t' : Tally) (input : Intake) (w e : List ℕ)
     (held : AreHeld told names files) (keeps : KeepsFiles told kept) (means : Means files text) (compiles : Compiles text image) where
   abbrev Done : Outcome → Type 0
   Done o = Performed (RunFiles names steps) told kept t t' input w e o
 
-  midway : IsMidway image input w e → Midway told input w e (RunFiles names steps)
-  midway m = let c = midway_concludes text image input w e compiles m in running names steps files text image held means compiles m c.0 c.1
+  midway : IsMidway image input steps w e → Midway told input w e (RunFiles names steps)
+  midway m = let c = midway_concludes text image input steps w e compiles m in running names steps files text image held means compiles m c.0 c.1
 
   run_image : (o : Outcome) → RanImage image steps t t' input w e o → Done (ended_outcome o)
   run_image _ (exited status r same) =
@@ -52,38 +52,38 @@ module _ (names : List (List ℕ)) (told kept : Option Files) (steps : ℕ) (fil
       let r' : IsRun image input steps Runs w [] = subst (λ (x : List ℕ). IsRun image input steps Runs w x) c.1 r in
       fine (outcome.Steps steps) (stopped names steps files text image held means compiles r' c.0 c.1 keeps) same
   run_image _ (trapped pc word r same) = absurd (run_concludes text image input steps (Trapped pc word) w e compiles r)
-  run_image _ (had_no_memory p q same) = want p q keeps same
-  run_image _ (input_fault f m) = read_failed f (midway m) keeps
-  run_image _ (out_fault f m) = write_failed f (in_run (RunFiles names steps) (midway m)) keeps
+  run_image _ (had_no_memory p q n same) = want p q keeps n same
+  run_image _ (input_fault f l m) = read_failed f l (midway m) keeps
+  run_image _ (out_fault f l m) = write_failed f l (in_run (RunFiles names steps) (midway m)) keeps
   run_image _ (err_fault f m) = error_failed f (midway m) keeps
 
-pub run_executed : (names : List (List ℕ)) (told kept : Option Files) (steps : ℕ) (files : List (List ℕ)) (text bytes : List ℕ) (t t' : Tally) (input : Option (List ℕ)) (w e : List ℕ) (o : Outcome) → AreHeld told names files → KeepsFiles told kept →
+pub run_executed : (names : List (List ℕ)) (told kept : Option Files) (steps : ℕ) (files : List (List ℕ)) (text bytes : List ℕ) (t t' : Tally) (input : Intake) (w e : List ℕ) (o : Outcome) → AreHeld told names files → KeepsFiles told kept →
     Means files text → IsElfOf text bytes → Executed bytes steps t t' input w e o → Performed (RunFiles names steps) told kept t t' input w e (ended_outcome o)
 run_executed names told kept steps files text bytes t t' input w e _ held keeps means made (of_image image o read h) =
     let a : meaning_of bytes ≡ Ok made.image = made.read in
     let same : made.image ≡ image = cc in
     run_image names told kept steps files text image t t' input w e held keeps means (subst (λ (i : Image). Compiles text i) same made.compiles) o h
-run_executed names told kept steps files text bytes t t' input w e _ held keeps means made (not_read kind at bad p q same) = let a : meaning_of bytes ≡ Ok made.image = made.read in absurd (cc)
-run_executed names told kept steps files text bytes t t' input w e _ held keeps means made (read_memory p q same) = want p q keeps same
+run_executed names told kept steps files text bytes t t' input w e _ held keeps means made (not_read kind at bad p q n same) = let a : meaning_of bytes ≡ Ok made.image = made.read in absurd (cc)
+run_executed names told kept steps files text bytes t t' input w e _ held keeps means made (read_memory p q n same) = want p q keeps n same
 
 -- ---- `exec`
 
-module _ (name : List ℕ) (told files : Option Files) (steps : ℕ) (file : List ℕ) (image : Image) (t t' : Tally) (input : Option (List ℕ)) (w e : List ℕ)
+module _ (name : List ℕ) (told files : Option Files) (steps : ℕ) (file : List ℕ) (image : Image) (t t' : Tally) (input : Intake) (w e : List ℕ)
     (held : IsHeld told name file) (keeps : KeepsFiles told files) (read : meaning_of file ≡ Ok image) where
   exec_image : (o : Outcome) → RanImage image steps t t' input w e o → Performed (ExecFile name steps) told files t t' input w e o
   exec_image _ (exited status r same) = fine (outcome.Exited status) (exec_exited name steps file image status held read r keeps) same
   exec_image _ (went_on r same) = fine (outcome.Steps steps) (exec_stopped name steps file image held read r keeps) same
   exec_image _ (trapped pc word r same) = fine (outcome.Trapped pc word) (exec_trapped name steps file image pc word held read r keeps) same
-  exec_image _ (had_no_memory p q same) = want p q keeps same
-  exec_image _ (input_fault f m) = read_failed f (executing name steps file image held read m) keeps
-  exec_image _ (out_fault f m) = write_failed f (in_run (ExecFile name steps) (executing name steps file image held read m)) keeps
+  exec_image _ (had_no_memory p q n same) = want p q keeps n same
+  exec_image _ (input_fault f l m) = read_failed f l (executing name steps file image held read m) keeps
+  exec_image _ (out_fault f l m) = write_failed f l (in_run (ExecFile name steps) (executing name steps file image held read m)) keeps
   exec_image _ (err_fault f m) = error_failed f (executing name steps file image held read m) keeps
 
-pub exec_executed : (name : List ℕ) (told files : Option Files) (steps : ℕ) (file : List ℕ) (t t' : Tally) (input : Option (List ℕ)) (w e : List ℕ) (o : Outcome) → IsHeld told name file → KeepsFiles told files →
+pub exec_executed : (name : List ℕ) (told files : Option Files) (steps : ℕ) (file : List ℕ) (t t' : Tally) (input : Intake) (w e : List ℕ) (o : Outcome) → IsHeld told name file → KeepsFiles told files →
     Executed file steps t t' input w e o → Performed (ExecFile name steps) told files t t' input w e o
 exec_executed name told files steps file t t' input w e _ held keeps (of_image image o read h) = exec_image name told files steps file image t t' input w e held keeps read o h
-exec_executed name told files steps file t t' input w e _ held keeps (not_read kind at bad p q same) = fine (outcome.NotElf kind at) (exec_not_elf name steps file kind at held bad p q keeps) same
-exec_executed name told files steps file t t' input w e _ held keeps (read_memory p q same) = want p q keeps same
+exec_executed name told files steps file t t' input w e _ held keeps (not_read kind at bad p q n same) = fine (outcome.NotElf kind at) (exec_not_elf name steps file kind at held bad p q keeps n) same
+exec_executed name told files steps file t t' input w e _ held keeps (read_memory p q n same) = want p q keeps n same
 
 -- ---- `compile`
 
@@ -96,27 +96,27 @@ changes_only told loaded saved target bytes e keeps saves = λ files t. let s = 
 
 -- ---- refusals
 
-pub run_said : (names : List (List ℕ)) (told kept : Option Files) (steps : ℕ) (files : List (List ℕ)) (line : Vec ℕ Global) (t t' : Tally) (input : Option (List ℕ)) → AreHeld told names files → KeepsFiles told kept →
-    (refusal : Refusal) × IsRefused files refusal × (line.items ≡ refused_line names refusal) → IsSame t t' → Performed (RunFiles names steps) told kept t t' input [] [] (outcome.Refused line)
-run_said names told kept steps files line t t' input held keeps h same =
-    fine (outcome.Refused line) (subst (λ (x : List ℕ). Comes told kept input [] [] (RunFiles names steps) x 2) (sym h.2) (run_refused names steps files h.0 held h.1 refl refl keeps)) same
+pub run_said : (names : List (List ℕ)) (told kept : Option Files) (steps : ℕ) (files : List (List ℕ)) (line : Vec ℕ Global) (t t' : Tally) (input : Intake) → AreHeld told names files → KeepsFiles told kept →
+    (refusal : Refusal) × IsRefused files refusal × (line.items ≡ refused_line names refusal) → TakesNothing input → IsSame t t' → Performed (RunFiles names steps) told kept t t' input [] [] (outcome.Refused line)
+run_said names told kept steps files line t t' input held keeps h nothing same =
+    fine (outcome.Refused line) (subst (λ (x : List ℕ). Comes told kept input [] [] (RunFiles names steps) x 2) (sym h.2) (run_refused names steps files h.0 held h.1 refl refl keeps nothing)) same
 
-pub compile_said : (names : List (List ℕ)) (target : List ℕ) (told kept : Option Files) (files : List (List ℕ)) (line : Vec ℕ Global) (t t' : Tally) (input : Option (List ℕ)) → AreHeld told names files → KeepsFiles told kept →
-    (refusal : Refusal) × IsRefused files refusal × (line.items ≡ refused_line names refusal) → IsSame t t' → Performed (CompileFiles names target) told kept t t' input [] [] (outcome.Refused line)
-compile_said names target told kept files line t t' input held keeps h same =
-    fine (outcome.Refused line) (subst (λ (x : List ℕ). Comes told kept input [] [] (CompileFiles names target) x 2) (sym h.2) (compile_refused names files target h.0 held h.1 refl refl keeps)) same
+pub compile_said : (names : List (List ℕ)) (target : List ℕ) (told kept : Option Files) (files : List (List ℕ)) (line : Vec ℕ Global) (t t' : Tally) (input : Intake) → AreHeld told names files → KeepsFiles told kept →
+    (refusal : Refusal) × IsRefused files refusal × (line.items ≡ refused_line names refusal) → TakesNothing input → IsSame t t' → Performed (CompileFiles names target) told kept t t' input [] [] (outcome.Refused line)
+compile_said names target told kept files line t t' input held keeps h nothing same =
+    fine (outcome.Refused line) (subst (λ (x : List ℕ). Comes told kept input [] [] (CompileFiles names target) x 2) (sym h.2) (compile_refused names files target h.0 held h.1 refl refl keeps nothing)) same
 
-pub types_said : (names : List (List ℕ)) (told kept : Option Files) (files : List (List ℕ)) (line : Vec ℕ Global) (t t' : Tally) (input : Option (List ℕ)) → AreHeld told names files → KeepsFiles told kept →
-    (refusal : Refusal) × IsUntyped files refusal × (line.items ≡ refused_line names refusal) → IsSame t t' → Performed (TypesFiles names) told kept t t' input [] [] (outcome.Refused line)
-types_said names told kept files line t t' input held keeps h same =
-    fine (outcome.Refused line) (subst (λ (x : List ℕ). Comes told kept input [] [] (TypesFiles names) x 2) (sym h.2) (types_refused names files h.0 held h.1 refl refl keeps)) same
+pub types_said : (names : List (List ℕ)) (told kept : Option Files) (files : List (List ℕ)) (line : Vec ℕ Global) (t t' : Tally) (input : Intake) → AreHeld told names files → KeepsFiles told kept →
+    (refusal : Refusal) × IsUntyped files refusal × (line.items ≡ refused_line names refusal) → TakesNothing input → IsSame t t' → Performed (TypesFiles names) told kept t t' input [] [] (outcome.Refused line)
+types_said names told kept files line t t' input held keeps h nothing same =
+    fine (outcome.Refused line) (subst (λ (x : List ℕ). Comes told kept input [] [] (TypesFiles names) x 2) (sym h.2) (types_refused names files h.0 held h.1 refl refl keeps nothing)) same
 
 -- ---- `types`
 
 module _ (names : List (List ℕ)) (told kept : Option Files) (files : List (List ℕ)) (text : List ℕ) (input : Option (List ℕ)) (i e store store' o o' : ℕ) (out out' err : Option (List ℕ))
     (held : AreHeld told names files) (keeps : KeepsFiles told kept) (shows : Shows files text) where
   abbrev After : Outcome → Type 0
-  After outcome = Came out out' err err (λ w m. Performed (TypesFiles names) told kept (tally store i o e) (tally store' i o' e) input w m outcome)
+  After outcome = Came out out' err err (λ w m. Performed (TypesFiles names) told kept (tally store i o e) (tally store' i o' e) (intake input input) w m outcome)
 
   pub types_written : (u : Unit {0}) → Whole text (Ok u) out out' → store' ≡ store → o' ≡ o → After outcome.Done
   types_written u w same counts = record {
@@ -124,7 +124,7 @@ module _ (names : List (List ℕ)) (told kept : Option Files) (files : List (Lis
     wrote_err = [];
     gains = w.gains;
     gains_err = gains_none err;
-    says = fine outcome.Done (typed names files held (subst (λ (x : List ℕ). Shows files x) (sym w.all) shows) refl keeps) (record { store = same; input = refl; out = counts; err = refl });
+    says = fine outcome.Done (typed names files held (subst (λ (x : List ℕ). Shows files x) (sym w.all) shows) refl keeps (λ bytes h. h)) (record { store = same; input = refl; out = counts; err = refl });
   }
 
   pub types_cut : (failed : Failed) → Whole text (Err failed) out out' → Fails o o' → After outcome.OutFault
@@ -133,14 +133,14 @@ module _ (names : List (List ℕ)) (told kept : Option Files) (files : List (Lis
     wrote_err = [];
     gains = w.gains;
     gains_err = gains_none err;
-    says = write_failed f.1 (in_types names files text held shows w.front refl) keeps;
+    says = write_failed f.1 (omega arith) (in_types names files text held shows w.front refl (λ bytes h. h)) keeps;
   }
 
 -- ---- `gen`
 
 module _ (number size : ℕ) (told : Option Files) (input : Option (List ℕ)) (store i e o o' : ℕ) (out out' err : Option (List ℕ)) where
   abbrev Afterwards : Outcome → Type 0
-  Afterwards outcome = Came out out' err err (λ w m. Performed (GenText number size) told told (tally store i o e) (tally store i o' e) input w m outcome)
+  Afterwards outcome = Came out out' err err (λ w m. Performed (GenText number size) told told (tally store i o e) (tally store i o' e) (intake input input) w m outcome)
 
   pub gen_written : (u : Unit {0}) → Whole (program_text number size) (Ok u) out out' → o' ≡ o → Afterwards outcome.Done
   gen_written u w counts = record {
@@ -148,7 +148,7 @@ module _ (number size : ℕ) (told : Option Files) (input : Option (List ℕ)) (
     wrote_err = [];
     gains = w.gains;
     gains_err = gains_none err;
-    says = fine outcome.Done (generated number size w.all refl (λ files t. t)) (record { store = refl; input = refl; out = counts; err = refl });
+    says = fine outcome.Done (generated number size w.all refl (λ files t. t) (λ bytes h. h)) (record { store = refl; input = refl; out = counts; err = refl });
   }
 
   pub gen_cut : (failed : Failed) → Whole (program_text number size) (Err failed) out out' → Fails o o' → Afterwards outcome.OutFault
@@ -157,5 +157,5 @@ module _ (number size : ℕ) (told : Option Files) (input : Option (List ℕ)) (
     wrote_err = [];
     gains = w.gains;
     gains_err = gains_none err;
-    says = write_failed f.1 (in_gen number size w.front refl) (λ files t. t);
+    says = write_failed f.1 (omega arith) (in_gen number size w.front refl (λ bytes h. h)) (λ files t. t);
   }

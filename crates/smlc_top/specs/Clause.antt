@@ -1,5 +1,5 @@
 -- What the program answers.
-use Rattle.std.specs.Prelude.{ℕ, ◌≡◌, ◌+◌, ◌*◌, List, [], ◌++◌, length, Option, Ok, Err}
+use Rattle.std.specs.Prelude.{ℕ, ◌≡◌, ◌≤◌, ◌+◌, ◌*◌, List, [], ◌++◌, length, Option, Ok, Err}
 use Rattle.smlc_base.specs.declared.place.Place.{Place}
 use Rattle.smlc_base.specs.declared.refusal.Refusal.{Refusal}
 use Rattle.smlc_base.specs.declared.refusal.Refusal.TheVariants.{NotInSubset}
@@ -26,7 +26,7 @@ use Rattle.print_code.specs.Prints.{Prints}
 use Rattle.smlc_jobs.specs.Texts.{name_at, refused_line, usage_line, memory_line, store_line, input_line, out_line, steps_line, exit_line, elf_line, trap_line}
 use Rattle.smlc_jobs.specs.Write.{IsPrefix}
 use Rattle.smlc_jobs.specs.Outcome.{line_of, status_of}
-use Rattle.smlc_jobs.specs.Runs.{Tally, IsSame, IsRun, IsMidway}
+use Rattle.smlc_jobs.specs.Runs.{Tally, IsSame, Intake, TakesNothing, IsRun, IsMidway}
 
 -- ---- files
 
@@ -50,19 +50,19 @@ pub record Compiles (text : List ℕ) (image : Image) : Type 0 where
 
 -- ---- the whole call
 
--- What comes of a job where nothing fails: with what the store told and tells, the input, and what the run wrote on out and err,
+-- What comes of a job where nothing fails: with what the store told and tells, what the input told and tells, and what the run wrote on out and err,
 -- the line that err gets then, and the status.
-pub data Comes (told now : Option Files) (input : Option (List ℕ)) (out merr : List ℕ) : Job → List ℕ → ℕ → Type 0 where
+pub data Comes (told now : Option Files) (input : Intake) (out merr : List ℕ) : Job → List ℕ → ℕ → Type 0 where
   ran : (names : List (List ℕ)) (steps : ℕ) (files : List (List ℕ)) (image : Image) → AreHeld told names files → Means files out → Compiles out image → IsRun image input steps (Exited 0) out [] →
       merr ≡ [] → KeepsFiles told now → Comes told now input out merr (RunFiles names steps) [] 0
   stopped : (names : List (List ℕ)) (steps : ℕ) (files : List (List ℕ)) (text : List ℕ) (image : Image) → AreHeld told names files → Means files text → Compiles text image → IsRun image input steps Runs out [] →
       IsPrefix out text → merr ≡ [] → KeepsFiles told now → Comes told now input out merr (RunFiles names steps) (steps_line steps) 4
   run_refused : (names : List (List ℕ)) (steps : ℕ) (files : List (List ℕ)) (refusal : Refusal) → AreHeld told names files → IsRefused files refusal →
-      out ≡ [] → merr ≡ [] → KeepsFiles told now → Comes told now input out merr (RunFiles names steps) (refused_line names refusal) 2
+      out ≡ [] → merr ≡ [] → KeepsFiles told now → TakesNothing input → Comes told now input out merr (RunFiles names steps) (refused_line names refusal) 2
   compiled : (names files : List (List ℕ)) (target text bytes : List ℕ) (image : Image) → AreHeld told names files → Means files text → Compiles text image → meaning_of bytes ≡ Ok image →
-      HasSaved told now target bytes → out ≡ [] → merr ≡ [] → Comes told now input out merr (CompileFiles names target) [] 0
+      HasSaved told now target bytes → out ≡ [] → merr ≡ [] → TakesNothing input → Comes told now input out merr (CompileFiles names target) [] 0
   compile_refused : (names files : List (List ℕ)) (target : List ℕ) (refusal : Refusal) → AreHeld told names files → IsRefused files refusal →
-      out ≡ [] → merr ≡ [] → KeepsFiles told now → Comes told now input out merr (CompileFiles names target) (refused_line names refusal) 2
+      out ≡ [] → merr ≡ [] → KeepsFiles told now → TakesNothing input → Comes told now input out merr (CompileFiles names target) (refused_line names refusal) 2
   exec_exited : (name : List ℕ) (steps : ℕ) (file : List ℕ) (image : Image) (status : ℕ) → IsHeld told name file → meaning_of file ≡ Ok image → IsRun image input steps (Exited status) out merr →
       KeepsFiles told now → Comes told now input out merr (ExecFile name steps) (exit_line status) 0
   exec_stopped : (name : List ℕ) (steps : ℕ) (file : List ℕ) (image : Image) → IsHeld told name file → meaning_of file ≡ Ok image → IsRun image input steps Runs out merr →
@@ -70,61 +70,68 @@ pub data Comes (told now : Option Files) (input : Option (List ℕ)) (out merr :
   exec_trapped : (name : List ℕ) (steps : ℕ) (file : List ℕ) (image : Image) (pc word : ℕ) → IsHeld told name file → meaning_of file ≡ Ok image → IsRun image input steps (Trapped pc word) out merr →
       KeepsFiles told now → Comes told now input out merr (ExecFile name steps) (trap_line pc word) 9
   exec_not_elf : (name : List ℕ) (steps : ℕ) (file : List ℕ) (kind : ElfKind) (at : ℕ) → IsHeld told name file → meaning_of file ≡ Err (elf.NotElf kind at) →
-      out ≡ [] → merr ≡ [] → KeepsFiles told now → Comes told now input out merr (ExecFile name steps) (elf_line kind at) 8
+      out ≡ [] → merr ≡ [] → KeepsFiles told now → TakesNothing input → Comes told now input out merr (ExecFile name steps) (elf_line kind at) 8
   typed : (names files : List (List ℕ)) → AreHeld told names files → Shows files out →
-      merr ≡ [] → KeepsFiles told now → Comes told now input out merr (TypesFiles names) [] 0
+      merr ≡ [] → KeepsFiles told now → TakesNothing input → Comes told now input out merr (TypesFiles names) [] 0
   types_refused : (names files : List (List ℕ)) (refusal : Refusal) → AreHeld told names files → IsUntyped files refusal →
-      out ≡ [] → merr ≡ [] → KeepsFiles told now → Comes told now input out merr (TypesFiles names) (refused_line names refusal) 2
-  generated : (number size : ℕ) → out ≡ program_text number size → merr ≡ [] → KeepsFiles told now → Comes told now input out merr (GenText number size) [] 0
+      out ≡ [] → merr ≡ [] → KeepsFiles told now → TakesNothing input → Comes told now input out merr (TypesFiles names) (refused_line names refusal) 2
+  generated : (number size : ℕ) → out ≡ program_text number size → merr ≡ [] → KeepsFiles told now → TakesNothing input → Comes told now input out merr (GenText number size) [] 0
 
 -- a run that was going on when a fault came, with what it had written
-pub data Midway (told : Option Files) (input : Option (List ℕ)) (out merr : List ℕ) : Job → Type 0 where
-  running : (names : List (List ℕ)) (steps : ℕ) (files : List (List ℕ)) (text : List ℕ) (image : Image) → AreHeld told names files → Means files text → Compiles text image → IsMidway image input out merr →
+pub data Midway (told : Option Files) (input : Intake) (out merr : List ℕ) : Job → Type 0 where
+  running : (names : List (List ℕ)) (steps : ℕ) (files : List (List ℕ)) (text : List ℕ) (image : Image) → AreHeld told names files → Means files text → Compiles text image → IsMidway image input steps out merr →
       IsPrefix out text → merr ≡ [] → Midway told input out merr (RunFiles names steps)
-  executing : (name : List ℕ) (steps : ℕ) (file : List ℕ) (image : Image) → IsHeld told name file → meaning_of file ≡ Ok image → IsMidway image input out merr → Midway told input out merr (ExecFile name steps)
+  executing : (name : List ℕ) (steps : ℕ) (file : List ℕ) (image : Image) → IsHeld told name file → meaning_of file ≡ Ok image → IsMidway image input steps out merr → Midway told input out merr (ExecFile name steps)
 
 -- what was going on when a write on out failed: a run, or the text of types or of a large program, of which a prefix was written
-pub data CutOff (told : Option Files) (input : Option (List ℕ)) (out merr : List ℕ) : Job → Type 0 where
+pub data CutOff (told : Option Files) (input : Intake) (out merr : List ℕ) : Job → Type 0 where
   in_run : (job : Job) → Midway told input out merr job → CutOff told input out merr job
-  in_types : (names files : List (List ℕ)) (text : List ℕ) → AreHeld told names files → Shows files text → IsPrefix out text → merr ≡ [] → CutOff told input out merr (TypesFiles names)
-  in_gen : (number size : ℕ) → IsPrefix out (program_text number size) → merr ≡ [] → CutOff told input out merr (GenText number size)
+  in_types : (names files : List (List ℕ)) (text : List ℕ) → AreHeld told names files → Shows files text → IsPrefix out text → merr ≡ [] → TakesNothing input → CutOff told input out merr (TypesFiles names)
+  in_gen : (number size : ℕ) → IsPrefix out (program_text number size) → merr ≡ [] → TakesNothing input → CutOff told input out merr (GenText number size)
 
 -- what comes whatever the job, or without one
 pub data Plain (words : List (List ℕ)) : List ℕ → ℕ → Type 0 where
   no_command : ((job : Job) → IsAsked words job → ⊥) → Plain words usage_line 7
   no_memory : Plain words memory_line 6
 
+-- what err took of the line that names what failed: all of it, or, where its own count rose too, a prefix
+pub data Names (before after : Tally) (line : List ℕ) : List ℕ → Type 0 where
+  whole : Names before after line line
+  part : (front : List ℕ) → Rose before.err after.err → IsPrefix front line → Names before after line front
+
 -- The status, with what was written on out and err.
--- Where a count of faults moved at all the status is 5. 5 comes only where one rose, and err then has a prefix of the line that names the object
--- whose count rose, or of the line that it failed to take.
-pub data Answers (words : List (List ℕ)) (told now : Option Files) (before after : Tally) (input : Option (List ℕ)) (out err : List ℕ) : ℕ → Type 0 where
+-- Where a count of faults moved at all the status is 5. 5 comes only where one rose, and err then has the line that names the object
+-- whose count rose, or a prefix of the line that it failed to take. Only a run takes input, and has left what the machine didn't read.
+pub data Answers (words : List (List ℕ)) (told now : Option Files) (before after : Tally) (input : Intake) (out err : List ℕ) : ℕ → Type 0 where
   answered : (job : Job) (merr line : List ℕ) (status : ℕ) → IsAsked words job → Comes told now input out merr job line status →
       IsSame before after → err ≡ merr ++ line → Answers words told now before after input out err status
-  plain : (line : List ℕ) (status : ℕ) → Plain words line status → out ≡ [] → KeepsFiles told now →
+  plain : (line : List ℕ) (status : ℕ) → Plain words line status → out ≡ [] → KeepsFiles told now → TakesNothing input →
       IsSame before after → err ≡ line → Answers words told now before after input out err status
-  not_loaded : (job : Job) (i : ℕ) → IsAsked words job → LoadsUpTo told (files_of job) i → Rose before.store after.store → out ≡ [] → KeepsFiles told now → IsPrefix err (store_line (name_at (files_of job) i)) →
+  not_loaded : (job : Job) (i : ℕ) → IsAsked words job → LoadsUpTo told (files_of job) i → Rose before.store after.store → out ≡ [] → KeepsFiles told now → TakesNothing input → Names before after (store_line (name_at (files_of job) i)) err →
       Answers words told now before after input out err 5
-  not_saved : (names : List (List ℕ)) (target : List ℕ) → IsAsked words (CompileFiles names target) → Rose before.store after.store → out ≡ [] → ChangesOnly told now target → IsPrefix err (store_line target) →
+  not_saved : (names files : List (List ℕ)) (target text : List ℕ) (image : Image) → IsAsked words (CompileFiles names target) → AreHeld told names files → Means files text → Compiles text image →
+      Rose before.store after.store → out ≡ [] → ChangesOnly told now target → TakesNothing input → Names before after (store_line target) err →
       Answers words told now before after input out err 5
   input_failed : (job : Job) (merr front : List ℕ) → IsAsked words job → Rose before.input after.input → Midway told input out merr job → KeepsFiles told now →
-      IsPrefix front input_line → err ≡ merr ++ front → Answers words told now before after input out err 5
+      Names before after input_line front → err ≡ merr ++ front → Answers words told now before after input out err 5
   out_failed : (job : Job) (merr front : List ℕ) → IsAsked words job → Rose before.out after.out → CutOff told input out merr job → KeepsFiles told now →
-      IsPrefix front out_line → err ≡ merr ++ front → Answers words told now before after input out err 5
+      Names before after out_line front → err ≡ merr ++ front → Answers words told now before after input out err 5
   err_failed : (job : Job) → IsAsked words job → Rose before.err after.err → Midway told input out err job → KeepsFiles told now → Answers words told now before after input out err 5
   untold : (job : Job) (merr line front : List ℕ) (status : ℕ) → IsAsked words job → Rose before.err after.err → Comes told now input out merr job line status →
       IsPrefix front line → err ≡ merr ++ front → Answers words told now before after input out err 5
-  untold_plain : (line : List ℕ) (status : ℕ) → Plain words line status → Rose before.err after.err → out ≡ [] → KeepsFiles told now → IsPrefix err line →
+  untold_plain : (line : List ℕ) (status : ℕ) → Plain words line status → Rose before.err after.err → out ≡ [] → KeepsFiles told now → TakesNothing input → IsPrefix err line →
       Answers words told now before after input out err 5
 
 -- ---- its parts
 
 -- the job was done, up to the line that tells it
-pub data Performed (job : Job) (told now : Option Files) (before after : Tally) (input : Option (List ℕ)) (out merr : List ℕ) : Outcome → Type 0 where
+pub data Performed (job : Job) (told now : Option Files) (before after : Tally) (input : Intake) (out merr : List ℕ) : Outcome → Type 0 where
   fine : (o : Outcome) → Comes told now input out merr job (line_of (files_of job) (target_of job) o) (status_of o) → IsSame before after → Performed job told now before after input out merr o
-  want : out ≡ [] → merr ≡ [] → KeepsFiles told now → IsSame before after → Performed job told now before after input out merr outcome.NoMemory
-  load_failed : (i : ℕ) → LoadsUpTo told (files_of job) i → Fails before.store after.store → out ≡ [] → merr ≡ [] → KeepsFiles told now → Performed job told now before after input out merr (outcome.LoadFault i)
-  save_failed : (names : List (List ℕ)) (target : List ℕ) → job ≡ CompileFiles names target → Fails before.store after.store → out ≡ [] → merr ≡ [] → ChangesOnly told now target →
+  want : out ≡ [] → merr ≡ [] → KeepsFiles told now → TakesNothing input → IsSame before after → Performed job told now before after input out merr outcome.NoMemory
+  load_failed : (i : ℕ) → LoadsUpTo told (files_of job) i → Fails before.store after.store → out ≡ [] → merr ≡ [] → KeepsFiles told now → TakesNothing input → before.err ≤ after.err → Performed job told now before after input out merr (outcome.LoadFault i)
+  save_failed : (names files : List (List ℕ)) (target text : List ℕ) (image : Image) → job ≡ CompileFiles names target → AreHeld told names files → Means files text → Compiles text image →
+      Fails before.store after.store → out ≡ [] → merr ≡ [] → ChangesOnly told now target → TakesNothing input → before.err ≤ after.err →
       Performed job told now before after input out merr outcome.SaveFault
-  read_failed : Fails before.input after.input → Midway told input out merr job → KeepsFiles told now → Performed job told now before after input out merr outcome.InputFault
-  write_failed : Rose before.out after.out → CutOff told input out merr job → KeepsFiles told now → Performed job told now before after input out merr outcome.OutFault
+  read_failed : Fails before.input after.input → before.err ≤ after.err → Midway told input out merr job → KeepsFiles told now → Performed job told now before after input out merr outcome.InputFault
+  write_failed : Rose before.out after.out → before.err ≤ after.err → CutOff told input out merr job → KeepsFiles told now → Performed job told now before after input out merr outcome.OutFault
   error_failed : Fails before.err after.err → Midway told input out merr job → KeepsFiles told now → Performed job told now before after input out merr outcome.ErrFault

@@ -6,7 +6,7 @@ ghost use Rattle.smlc_jobs.specs.Job.{Job as Wanted};
 ghost use Rattle.smlc_jobs.specs.Outcome.{is_fault, ended_outcome};
 ghost use Rattle.smlc_top.specs.Clause.{Answers, Performed};
 ghost use Rattle.smlc_edge.specs.Edge.{Files};
-ghost use Rattle.smlc_jobs.specs.Runs.{tally, Came};
+ghost use Rattle.smlc_jobs.specs.Runs.{tally, intake, Came};
 
 use crate::build::{Built, build};
 use crate::types::{Shown, show};
@@ -37,7 +37,7 @@ pub fn smlc_main<F: Store, I: Source, O: Sink, E: Sink>(
     ensures answer { Came (O.taken out.old) (O.taken out.new) (E.taken err.old) (E.taken err.new) (λ wrote wrote_err.
         Answers (map string_bytes words.now) (F.files store.old) (F.files store.new)
         (tally (F.faults store.old) (I.faults input.old) (O.faults out.old) (E.faults err.old))
-        (tally (F.faults store.new) (I.faults input.new) (O.faults out.new) (E.faults err.new)) (I.left input.old) wrote wrote_err result) }
+        (tally (F.faults store.new) (I.faults input.new) (O.faults out.new) (E.faults err.new)) (intake (I.left input.old) (I.left input.new)) wrote wrote_err result) }
 
     // Where the outside is sure, no fault is answered.
     ensures sure { ((job : Wanted) → IsAsked (map string_bytes words.now) job → Serves job (F.surely_loads store.old) (F.surely_saves store.old)) →
@@ -63,7 +63,7 @@ fn do_job<F: Store, I: Source, O: Sink, E: Sink>(
     ensures answer { (words : List (List ℕ)) → IsAsked words (job_of job.entry) → Came (O.taken out.old) (O.taken out.new) (E.taken err.old) (E.taken err.new) (λ wrote wrote_err.
         Answers words (F.files store.old) (F.files store.new)
         (tally (F.faults store.old) (I.faults input.old) (O.faults out.old) (E.faults err.old))
-        (tally (F.faults store.new) (I.faults input.new) (O.faults out.new) (E.faults err.new)) (I.left input.old) wrote wrote_err result) }
+        (tally (F.faults store.new) (I.faults input.new) (O.faults out.new) (E.faults err.new)) (intake (I.left input.old) (I.left input.new)) wrote wrote_err result) }
     ensures sure { Serves (job_of job.entry) (F.surely_loads store.old) (F.surely_saves store.old) →
         I.sure input.old → O.sure out.old → E.sure err.old → result ≢ 5 }
 {
@@ -108,7 +108,7 @@ fn run<F: Store, I: Source, O: Sink, E: Sink>(
     ensures performed { Came (O.taken out.old) (O.taken out.new) (E.taken err.old) (E.taken err.new) (λ wrote wrote_err.
         Performed (RunFiles (map (λ name. name.now) names.now) steps) (F.files store.old) (F.files store.new)
         (tally (F.faults store.old) (I.faults input.old) (O.faults out.old) (E.faults err.old))
-        (tally (F.faults store.new) (I.faults input.new) (O.faults out.new) (E.faults err.new)) (I.left input.old) wrote wrote_err result) }
+        (tally (F.faults store.new) (I.faults input.new) (O.faults out.new) (E.faults err.new)) (intake (I.left input.old) (I.left input.new)) wrote wrote_err result) }
     ensures sure { All (F.surely_loads store.old) (map (λ name. name.now) names.now) → I.sure input.old → O.sure out.old → E.sure err.old → (is_fault result ≡ false) × E.sure err.new }
 {
     match load_all(alloc, names, store) {
@@ -136,7 +136,7 @@ fn ended(outcome: Outcome) -> Outcome
 fn compile<F: Store>(alloc: Global, names: &[&str], target: &str, store: &mut F) -> Outcome
     requires { length names.now ≤ 256 }
     ensures performed { (i o e : ℕ) (input : Option (List ℕ)) → Performed (CompileFiles (map (λ name. name.now) names.now) target.now) (F.files store.old) (F.files store.new)
-        (tally (F.faults store.old) i o e) (tally (F.faults store.new) i o e) input [] [] result }
+        (tally (F.faults store.old) i o e) (tally (F.faults store.new) i o e) (intake input input) [] [] result }
     ensures sure { All (F.surely_loads store.old) (map (λ name. name.now) names.now) → F.surely_saves store.old target.now 8589934592 → is_fault result ≡ false }
 {
     match load_all(alloc, names, store) {
@@ -166,7 +166,7 @@ fn exec<F: Store, I: Source, O: Sink, E: Sink>(
     ensures performed { Came (O.taken out.old) (O.taken out.new) (E.taken err.old) (E.taken err.new) (λ wrote wrote_err.
         Performed (ExecFile name.now steps) (F.files store.old) (F.files store.new)
         (tally (F.faults store.old) (I.faults input.old) (O.faults out.old) (E.faults err.old))
-        (tally (F.faults store.new) (I.faults input.new) (O.faults out.new) (E.faults err.new)) (I.left input.old) wrote wrote_err result) }
+        (tally (F.faults store.new) (I.faults input.new) (O.faults out.new) (E.faults err.new)) (intake (I.left input.old) (I.left input.new)) wrote wrote_err result) }
     ensures sure { F.surely_loads store.old name.now → I.sure input.old → O.sure out.old → E.sure err.old → (is_fault result ≡ false) × E.sure err.new }
 {
     match store.load(alloc, name) {
@@ -179,7 +179,7 @@ fn exec<F: Store, I: Source, O: Sink, E: Sink>(
 // Writes the large program of a number and a size.
 fn generate<O: Sink>(alloc: Global, number: u64, size: u64, out: &mut O) -> Outcome
     ensures performed { (store i e : ℕ) (told : Option Files) (input err : Option (List ℕ)) → Came (O.taken out.old) (O.taken out.new) err err (λ wrote wrote_err.
-        Performed (GenText number size) told told (tally store i (O.faults out.old) e) (tally store i (O.faults out.new) e) input wrote wrote_err result) }
+        Performed (GenText number size) told told (tally store i (O.faults out.old) e) (tally store i (O.faults out.new) e) (intake input input) wrote wrote_err result) }
     ensures sure { O.sure out.old → is_fault result ≡ false }
 {
     match program(alloc, number, size) {
@@ -197,7 +197,7 @@ fn types<F: Store, O: Sink>(alloc: Global, names: &[&str], store: &mut F, out: &
     ensures performed { (i e : ℕ) (input err : Option (List ℕ)) → Came (O.taken out.old) (O.taken out.new) err err (λ wrote wrote_err.
         Performed (TypesFiles (map (λ name. name.now) names.now)) (F.files store.old) (F.files store.new)
         (tally (F.faults store.old) i (O.faults out.old) e)
-        (tally (F.faults store.new) i (O.faults out.new) e) input wrote wrote_err result) }
+        (tally (F.faults store.new) i (O.faults out.new) e) (intake input input) wrote wrote_err result) }
     ensures sure { All (F.surely_loads store.old) (map (λ name. name.now) names.now) → O.sure out.old → is_fault result ≡ false }
 {
     match load_all(alloc, names, store) {

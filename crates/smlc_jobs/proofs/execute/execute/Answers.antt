@@ -1,3 +1,4 @@
+use Rattle.smlc_jobs.specs.Runs.{intake}
 use Rattle.smlc_jobs.specs.Execute.{of_image}
 use Rattle.smlc_jobs.proofs.Faults.{came_none, came_so}
 use Rattle.smlc_jobs.proofs.Running.{unread_executed}
@@ -11,4 +12,4 @@ returns-in-Ok-clause-executed g c = λ store.
 pub returns-in-Err-clause-executed : goal.returns-in-Err-clause-executed
 returns-in-Err-clause-executed g c = λ store.
     came_none (g.O.Sink.taken c.args.out.now) (g.E.Sink.taken c.args.err.now) _
-    (rw c.not_read.ensures (unread_executed c.args.bytes.now c.args.steps _ (g.I.Source.left c.args.input.now) c.in-Err.e c.in-Err.ensures.not_elf))
+    (rw c.not_read.ensures (unread_executed c.args.bytes.now c.args.steps _ (intake (g.I.Source.left c.args.input.now) (g.I.Source.left c.args.input.now)) c.in-Err.e c.in-Err.ensures.not_elf (λ bytes h. h)))

@@ -1,7 +1,7 @@
-use Rattle.std.proofs.Common.{◌≡◌, ℕ, List, [], ◌∷◌, ◌+◌, ◌<◌, ◌^◌, length, map, sym, ap, subst, ◌∙◌, arith}
+use Rattle.std.proofs.Common.{◌≡◌, [], ◌∷◌, length, map, sym, ap, subst, ◌∙◌, arith}
 use Rattle.std.proofs.lemmas.List.{length-map}
 use Rattle.sml_prelude.specs.Text.{library_text}
-use Rattle.sml_lexer.specs.Programs.{IsLexed, IsRefused}
+use Rattle.sml_lexer.specs.Programs.{IsRefused}
 use Rattle.smlc_top.proofs.Fronts.{library_lexed, library_tokens_fail, library_syntax_fails}
 use Rattle.smlc_top.proofs.front.library_tree.Goals as goal
 

@@ -2,6 +2,7 @@ use Rattle.std.proofs.Common.{ℕ, length, arith, ap, refl, ◌∙◌, subst}
 use Rattle.std.specs.Prelude.{map}
 use Rattle.std.proofs.lemmas.List.{length-map}
 use Rattle.smlc_edge.specs.Edge.{Fails}
+use Rattle.smlc_jobs.specs.Runs.{intake}
 use Rattle.smlc_jobs.specs.declared.outcome.Outcome.TheVariants as outcome
 use Rattle.smlc_top.specs.Clause.{compiled, fine, want, load_failed, save_failed}
 use Rattle.smlc_top.proofs.Jobs.{compile_said, has_saved, changes_only}
@@ -17,33 +18,34 @@ returns-in-Ok-clause-performed g c = λ i o e input.
     let l = c.in-Files.ensures.loaded in
     let b = rw c.deref.ensures.value at c.in-Elf.ensures in
     fine outcome.Done (compiled (map (λ x. x.now) c.args.names.now) (map (λ x. x.items) c.in-Files.files.items) c.args.target.now b.0 c.in-Elf.bytes.items b.2.image (λ files t. l.0 files t) b.1 b.2.compiles b.2.read
-    (has_saved (g.F.Store.files c.args.store.now) (g.F.Store.files c.load_all.new.store) (g.F.Store.files c.save.new.self) c.args.target.now c.in-Elf.bytes.items tt (λ files t. l.2 files t) (λ files t. rw c.deref-in-Elf.ensures.value at (c.in-Ok.ensures.told files t))) refl refl)
+    (has_saved (g.F.Store.files c.args.store.now) (g.F.Store.files c.load_all.new.store) (g.F.Store.files c.save.new.self) c.args.target.now c.in-Elf.bytes.items tt (λ files t. l.2 files t) (λ files t. rw c.deref-in-Elf.ensures.value at (c.in-Ok.ensures.told files t))) refl refl (λ bytes h. h))
     (record { store = c.in-Ok.ensures.cause ∙ l.3; input = refl; out = refl; err = refl })
 
 pub returns-in-Elf-clause-performed : goal.returns-in-Elf-clause-performed
 returns-in-Elf-clause-performed g c = λ i o e input.
     let l = c.in-Files.ensures.loaded in
     let f : Fails (g.F.Store.faults c.args.store.now) (g.F.Store.faults c.save.new.self) = subst (λ (n : ℕ). Fails n (g.F.Store.faults c.save.new.self)) l.3 c.in-Err.ensures.cause in
-    save_failed (map (λ x. x.now) c.args.names.now) c.args.target.now refl f refl refl
-    (changes_only (g.F.Store.files c.args.store.now) (g.F.Store.files c.load_all.new.store) (g.F.Store.files c.save.new.self) c.args.target.now _ c.in-Err.field-0 (λ files t. l.2 files t) (λ files t. c.in-Err.ensures.told files t))
+    let b = rw c.deref.ensures.value at c.in-Elf.ensures in
+    save_failed (map (λ x. x.now) c.args.names.now) (map (λ x. x.items) c.in-Files.files.items) c.args.target.now b.0 b.2.image refl (λ files t. l.0 files t) b.1 b.2.compiles f refl refl
+    (changes_only (g.F.Store.files c.args.store.now) (g.F.Store.files c.load_all.new.store) (g.F.Store.files c.save.new.self) c.args.target.now _ c.in-Err.field-0 (λ files t. l.2 files t) (λ files t. c.in-Err.ensures.told files t)) (λ bytes h. h) (omega arith)
 
 pub returns-in-Refused-clause-performed : goal.returns-in-Refused-clause-performed
 returns-in-Refused-clause-performed g c = λ i o e input.
     let l = c.in-Files.ensures.loaded in
-    compile_said (map (λ x. x.now) c.args.names.now) c.args.target.now (g.F.Store.files c.args.store.now) (g.F.Store.files c.load_all.new.store) (map (λ x. x.items) c.in-Files.files.items) c.in-Refused.line _ _ input
-    (λ files t. l.0 files t) (λ files t. l.2 files t) (rw c.deref.ensures.value at c.in-Refused.ensures) (record { store = l.3; input = refl; out = refl; err = refl })
+    compile_said (map (λ x. x.now) c.args.names.now) c.args.target.now (g.F.Store.files c.args.store.now) (g.F.Store.files c.load_all.new.store) (map (λ x. x.items) c.in-Files.files.items) c.in-Refused.line _ _ (intake input input)
+    (λ files t. l.0 files t) (λ files t. l.2 files t) (rw c.deref.ensures.value at c.in-Refused.ensures) (λ bytes h. h) (record { store = l.3; input = refl; out = refl; err = refl })
 
 pub returns-in-Files-clause-performed : goal.returns-in-Files-clause-performed
 returns-in-Files-clause-performed g c = λ i o e input.
     let l = c.in-Files.ensures.loaded in
-    want refl refl (λ files t. l.2 files t) (record { store = l.3; input = refl; out = refl; err = refl })
+    want refl refl (λ files t. l.2 files t) (λ bytes h. h) (record { store = l.3; input = refl; out = refl; err = refl })
 
 pub returns-in-Failed-clause-performed : goal.returns-in-Failed-clause-performed
 returns-in-Failed-clause-performed g c = λ i o e input.
     let l = c.in-Failed.ensures.loaded in
-    load_failed c.in-Failed.at l.0 l.2 refl refl (λ files t. l.1 files t)
+    load_failed c.in-Failed.at l.0 l.2 refl refl (λ files t. l.1 files t) (λ bytes h. h) (omega arith)
 
 pub returns-clause-performed : goal.returns-clause-performed
 returns-clause-performed g c = λ i o e input.
     let l = c.in-NoMemory.ensures.loaded in
-    want refl refl (λ files t. l.0 files t) (record { store = l.1; input = refl; out = refl; err = refl })
+    want refl refl (λ files t. l.0 files t) (λ bytes h. h) (record { store = l.1; input = refl; out = refl; err = refl })

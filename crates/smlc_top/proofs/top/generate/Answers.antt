@@ -15,4 +15,4 @@ returns-in-Ok-clause-performed g c = λ store i e told input err.
     (rw c.in-Ok.ensures at (rw c.deref.ensures.value at c.in-Err-write_whole.ensures.whole)) c.in-Err-write_whole.ensures.cause
 
 pub returns-clause-performed : goal.returns-clause-performed
-returns-clause-performed g c = λ store i e told input err. came_none (g.O.Sink.taken c.args.out.now) err _ (want refl refl (λ files t. t) (record { store = refl; input = refl; out = refl; err = refl }))
+returns-clause-performed g c = λ store i e told input err. came_none (g.O.Sink.taken c.args.out.now) err _ (want refl refl (λ files t. t) (λ bytes h. h) (record { store = refl; input = refl; out = refl; err = refl }))

@@ -2,6 +2,7 @@ use Rattle.std.proofs.Common.{length, arith, ap, refl}
 use Rattle.std.specs.Prelude.{map}
 use Rattle.std.proofs.lemmas.List.{length-map}
 use Rattle.smlc_top.specs.Clause.{want, load_failed}
+use Rattle.smlc_jobs.specs.Runs.{intake}
 use Rattle.smlc_jobs.proofs.Faults.{came_none}
 use Rattle.smlc_top.proofs.Jobs.{types_said, types_written, types_cut}
 use Rattle.smlc_top.proofs.top.types.Goals as goal
@@ -28,20 +29,20 @@ returns-in-Text-clause-performed g c = λ i e input err.
 pub returns-in-Refused-clause-performed : goal.returns-in-Refused-clause-performed
 returns-in-Refused-clause-performed g c = λ i e input err.
     let l = c.in-Files.ensures.loaded in
-    came_none (g.O.Sink.taken c.args.out.now) err _ (types_said (map (λ x. x.now) c.args.names.now) (g.F.Store.files c.args.store.now) (g.F.Store.files c.load_all.new.store) (map (λ x. x.items) c.in-Files.files.items) c.in-Refused.line _ _ input
-    (λ files t. l.0 files t) (λ files t. l.2 files t) (rw c.deref.ensures.value at c.in-Refused.ensures) (record { store = l.3; input = refl; out = refl; err = refl }))
+    came_none (g.O.Sink.taken c.args.out.now) err _ (types_said (map (λ x. x.now) c.args.names.now) (g.F.Store.files c.args.store.now) (g.F.Store.files c.load_all.new.store) (map (λ x. x.items) c.in-Files.files.items) c.in-Refused.line _ _ (intake input input)
+    (λ files t. l.0 files t) (λ files t. l.2 files t) (rw c.deref.ensures.value at c.in-Refused.ensures) (λ bytes h. h) (record { store = l.3; input = refl; out = refl; err = refl }))
 
 pub returns-in-Files-clause-performed : goal.returns-in-Files-clause-performed
 returns-in-Files-clause-performed g c = λ i e input err.
     let l = c.in-Files.ensures.loaded in
-    came_none (g.O.Sink.taken c.args.out.now) err _ (want refl refl (λ files t. l.2 files t) (record { store = l.3; input = refl; out = refl; err = refl }))
+    came_none (g.O.Sink.taken c.args.out.now) err _ (want refl refl (λ files t. l.2 files t) (λ bytes h. h) (record { store = l.3; input = refl; out = refl; err = refl }))
 
 pub returns-in-Failed-clause-performed : goal.returns-in-Failed-clause-performed
 returns-in-Failed-clause-performed g c = λ i e input err.
     let l = c.in-Failed.ensures.loaded in
-    came_none (g.O.Sink.taken c.args.out.now) err _ (load_failed c.in-Failed.at l.0 l.2 refl refl (λ files t. l.1 files t))
+    came_none (g.O.Sink.taken c.args.out.now) err _ (load_failed c.in-Failed.at l.0 l.2 refl refl (λ files t. l.1 files t) (λ bytes h. h) (omega arith))
 
 pub returns-clause-performed : goal.returns-clause-performed
 returns-clause-performed g c = λ i e input err.
     let l = c.in-NoMemory.ensures.loaded in
-    came_none (g.O.Sink.taken c.args.out.now) err _ (want refl refl (λ files t. l.0 files t) (record { store = l.1; input = refl; out = refl; err = refl }))
+    came_none (g.O.Sink.taken c.args.out.now) err _ (want refl refl (λ files t. l.0 files t) (λ bytes h. h) (record { store = l.1; input = refl; out = refl; err = refl }))
