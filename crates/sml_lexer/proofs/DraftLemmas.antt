@@ -20,6 +20,8 @@ use Rattle.sml_lexer.specs.Shown.{meaning_in, Shows, ShowAll, Extends}
 use Rattle.sml_lexer.specs.Shown as shown
 use Rattle.sml_lexer.specs.Steps.{IsGapAt, IsTokenAt, IsFirstAt, kind_meaning}
 use Rattle.sml_lexer.specs.Drafts.{AddsToken, IsFileOk, refusal_of}
+use Rattle.sml_lexer.specs.Stored.{names_with, texts_with, names_of, texts_of, AreCounted}
+use Rattle.sml_lexer.proofs.StoredLemmas.{names_of-push, texts_of-push, counted_push}
 use Rattle.sml_lexer.specs.Tokens.{Lexeme, StandsAs, IsAllowed, Fault, IsFirstFault, number_of}
 use Rattle.sml_lexer.proofs.FileLemmas.{Reached, start, gap, token, read_whole, read_fault}
 use Rattle.sml_lexer.proofs.PlaceLemmas.{place-append, place_bounds}
@@ -77,6 +79,9 @@ pub record IsDrafted (file : ℕ) (bytes : List ℕ) (at : ℕ) (place : Place) 
   pub tokens : List Token
   pub items : new.tokens.items ≡ old.tokens.items ++ tokens
   pub shown : ShowAll file new.names new.texts.items tokens lexemes
+  pub names_are : new.names ≡ names_of old.names lexemes
+  pub texts_are : new.texts.items ≡ texts_of old.texts.items lexemes
+  pub counted : AreCounted (length old.texts.items) tokens (length new.texts.items)
   pub names : Extends old.names new.names
   pub texts : Extends old.texts.items new.texts.items
   pub token_count : vec_len new.tokens ≤ vec_len old.tokens + at
@@ -92,6 +97,9 @@ drafted_nothing file bytes d = record {
   tokens = [];
   items = sym (append-nil d.tokens.items);
   shown = shown.ShowAll.none;
+  names_are = refl;
+  texts_are = refl;
+  counted = refl;
   names = extends-refl d.names;
   texts = extends-refl d.texts.items;
   token_count = omega arith;
@@ -138,6 +146,9 @@ module _ (file : ℕ) (bytes : List ℕ) (at : ℕ) (place : Place) (old now : D
         tokens = d.tokens;
         items = d.items;
         shown = d.shown;
+        names_are = d.names_are;
+        texts_are = d.texts_are;
+        counted = d.counted;
         names = d.names;
         texts = d.texts;
         token_count = omega arith;
@@ -159,6 +170,9 @@ module _ (file : ℕ) (bytes : List ℕ) (at : ℕ) (place : Place) (old now : D
         items = a.items ∙ ap (λ z. z ++ a.token ∷ []) d.items ∙ append_assoc old.tokens.items d.tokens (a.token ∷ []);
         shown = shown_push file new.names new.texts.items _ _ (shown_extends file _ _ _ _ names texts _ _ d.shown) a.token lexeme
             (record { kind = a.kind_is; place = a.place_is ∙ d.place_is; at = a.at_is ∙ sym (length-take-le at bytes d.in_range); len = a.len_is; numeral = a.numeral_is });
+        names_are = a.names_are ∙ ap (λ (ns : List (List ℕ)). names_with ns lexeme.meaning) d.names_are ∙ sym (names_of-push old.names d.lexemes lexeme);
+        texts_are = a.texts_are ∙ ap (λ (xs : List (List ℕ)). texts_with xs lexeme.meaning) d.texts_are ∙ sym (texts_of-push old.texts.items d.lexemes lexeme);
+        counted = counted_push (length old.texts.items) (length now.texts.items) (length new.texts.items) d.tokens a.token d.counted a.next;
         names = extends-trans _ _ _ d.names names;
         texts = extends-trans _ _ _ d.texts texts;
         token_count = omega arith;
@@ -176,6 +190,9 @@ module _ (file : ℕ) (bytes : List ℕ) (at : ℕ) (place : Place) (old now : D
     tokens = d.tokens;
     items = d.items;
     shown = d.shown;
+    names_are = d.names_are;
+    texts_are = d.texts_are;
+    counted = d.counted;
     end_is = d.place_is ∙ ap (place_behind file) (take_all at bytes h);
   }
 

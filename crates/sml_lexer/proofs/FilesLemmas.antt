@@ -14,13 +14,15 @@ use Rattle.sml_lexer.specs.declared.token.TokenKind.{TokenKind}
 use Rattle.sml_lexer.specs.declared.token.TokenKind.TheVariants.{Word, Id, Symbol, Long, TyVar, Int, WordLit, Real, Char, Text}
 use Rattle.sml_lexer.specs.Cited.{is_cited, all_cited}
 use Rattle.sml_lexer.specs.Drafts.{refusal_of}
-use Rattle.sml_lexer.specs.Files.{total, limit, AreFiles, end_of, HasTokens, IsRefusal}
+use Rattle.sml_lexer.specs.Files.{total, limit, AreFiles, AreCut, end_of, HasTokens, IsRefusal}
 use Rattle.sml_lexer.specs.Files as files
 use Rattle.sml_lexer.specs.Meanings.{Meaning, IsInRange}
 use Rattle.sml_lexer.specs.Meanings as meaning
 use Rattle.sml_lexer.specs.Places.{place_behind}
 use Rattle.sml_lexer.specs.Shown.{meaning_in, Shows, ShowAll, Extends}
 use Rattle.sml_lexer.specs.Shown as shown
+use Rattle.sml_lexer.specs.Stored.{names_of, texts_of, AreCounted}
+use Rattle.sml_lexer.proofs.StoredLemmas.{names_of-append, texts_of-append, counted_append}
 use Rattle.sml_lexer.specs.Tokens.{Lexeme, IsAllowed, Behind, AreTokens, Fault, IsFirstFault}
 use Rattle.sml_lexer.specs.Tokens as tokens
 use Rattle.sml_lexer.proofs.DraftLemmas.{shown_extends}
@@ -85,6 +87,38 @@ pub more_progress : (n : ℕ) (fs : List (List ℕ)) (names texts names' texts' 
 more_progress n fs names texts names' texts' ts us all end p a b f m e ls h s ai next ne = record {
   are = subst (AreFiles names' texts' n (fs ++ f ∷ [])) (sym ai) (files_push names' texts' n fs ts (files_extend names names' texts texts' a b n fs ts p.are) m (omega arith) f us ls h s);
   end_is = ne ∙ sym (end_push (record { file = 0; line = 1; col = 1 }) n fs f m (omega arith));
+}
+
+cut_push : (fs : List (List ℕ)) (ls : List Lexeme) → AreCut fs ls → (f : List ℕ) (ms : List Lexeme) → AreTokens f ms → AreCut (fs ++ f ∷ []) (ls ++ ms)
+cut_push fs ls files.AreCut.none f ms h = subst (λ (ks : List Lexeme). AreCut (f ∷ []) ks) (append-nil ms) (files.AreCut.file f [] ms [] h files.AreCut.none)
+cut_push fs ls (files.AreCut.file g gs ks js k c) f ms h =
+    subst (λ (is : List Lexeme). AreCut ((g ∷ gs) ++ f ∷ []) is) (sym (append_assoc ks js ms)) (files.AreCut.file g (gs ++ f ∷ []) ks (js ++ ms) k (cut_push gs js c f ms h))
+
+-- the names and texts behind files
+pub record AreStored (names texts : List (List ℕ)) (fs now_names now_texts : List (List ℕ)) (ts : List Token) : Type 0 where
+  pub lexemes : List Lexeme
+  pub cut : AreCut fs lexemes
+  pub names_are : now_names ≡ names_of names lexemes
+  pub texts_are : now_texts ≡ texts_of texts lexemes
+  pub counted : AreCounted (length texts) ts (length now_texts)
+
+pub none_stored : (names texts now_names now_texts : List (List ℕ)) (ts : List Token) → now_names ≡ names → now_texts ≡ texts → ts ≡ [] → AreStored names texts [] now_names now_texts ts
+none_stored names texts now_names now_texts ts e f g = record {
+  lexemes = [];
+  cut = files.AreCut.none;
+  names_are = e;
+  texts_are = f;
+  counted = subst (λ (us : List Token). AreCounted (length texts) us (length now_texts)) (sym g) (ap length f);
+}
+
+pub more_stored : (names texts fs now_names now_texts : List (List ℕ)) (ts : List Token) → AreStored names texts fs now_names now_texts ts → (f : List ℕ) (ls : List Lexeme) → AreTokens f ls → (next_names next_texts : List (List ℕ)) (us all : List Token)
+    → next_names ≡ names_of now_names ls → next_texts ≡ texts_of now_texts ls → AreCounted (length now_texts) us (length next_texts) → all ≡ ts ++ us → AreStored names texts (fs ++ f ∷ []) next_names next_texts all
+more_stored names texts fs now_names now_texts ts s f ls h next_names next_texts us all e g c is = record {
+  lexemes = s.lexemes ++ ls;
+  cut = cut_push fs s.lexemes s.cut f ls h;
+  names_are = e ∙ ap (λ (ns : List (List ℕ)). names_of ns ls) s.names_are ∙ sym (names_of-append names s.lexemes ls);
+  texts_are = g ∙ ap (λ (xs : List (List ℕ)). texts_of xs ls) s.texts_are ∙ sym (texts_of-append texts s.lexemes ls);
+  counted = subst (λ (vs : List Token). AreCounted (length texts) vs (length next_texts)) (sym is) (counted_append (length texts) (length now_texts) (length next_texts) ts us s.counted c);
 }
 
 -- where each file has tokens, nothing is refused

@@ -10,6 +10,7 @@ pub mod FilesLemmas
 pub mod FoundLemmas
 pub mod ItemLemmas
 pub mod ItemsFound
+pub mod LexedOnce
 pub mod NameLemmas
 pub mod NumberLemmas
 pub mod PlaceLemmas
@@ -23,6 +24,7 @@ pub mod ReservedLemmas
 pub mod RunLemmas
 pub mod StageLemmas
 pub mod StepLemmas
+pub mod StoredLemmas
 pub mod UniqueLemmas
 pub mod UnsignedLemmas
 pub mod WordLemmas

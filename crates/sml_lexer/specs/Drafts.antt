@@ -14,9 +14,10 @@ use Rattle.sml_lexer.specs.Numbers.{is_numeral}
 use Rattle.sml_lexer.specs.Places.{place_behind}
 use Rattle.sml_lexer.specs.Shown.{meaning_in, ShowAll}
 use Rattle.sml_lexer.specs.Steps.{kind_meaning}
+use Rattle.sml_lexer.specs.Stored.{names_with, texts_with, names_of, texts_of, IsNext, AreCounted}
 use Rattle.sml_lexer.specs.Tokens.{Lexeme, AreTokens, Fault, IsFirstFault}
 
--- one more token, with this spelling at this place
+-- one more token, with this spelling at this place, and with the name or text that it cites
 pub record AddsToken (old new : Draft) (kind : Kind) (place : Place) (at : ℕ) (text : List ℕ) : Type 0 where
   pub token : Token
   pub items : new.tokens.items ≡ old.tokens.items ++ token ∷ []
@@ -25,6 +26,9 @@ pub record AddsToken (old new : Draft) (kind : Kind) (place : Place) (at : ℕ) 
   pub at_is : token.at ≡ at
   pub len_is : token.len ≡ length text
   pub numeral_is : token.numeral ≡ is_numeral text
+  pub names_are : new.names ≡ names_with old.names (kind_meaning kind text)
+  pub texts_are : new.texts.items ≡ texts_with old.texts.items (kind_meaning kind text)
+  pub next : IsNext (length old.texts.items) token.kind (length new.texts.items)
 
 -- a refusal of this kind
 abbrev pub refusal_of : Trouble → Place → Refusal
@@ -39,6 +43,9 @@ pub record IsFileOk (file : ℕ) (bytes : List ℕ) (old new : Draft) (end : Pla
   pub tokens : List Token
   pub items : new.tokens.items ≡ old.tokens.items ++ tokens
   pub shown : ShowAll file new.names new.texts.items tokens lexemes
+  pub names_are : new.names ≡ names_of old.names lexemes
+  pub texts_are : new.texts.items ≡ texts_of old.texts.items lexemes
+  pub counted : AreCounted (length old.texts.items) tokens (length new.texts.items)
   pub end_is : end ≡ place_behind file bytes
 
 -- want of memory, or the file's first fault

@@ -25,6 +25,11 @@ pub data AreFiles (names texts : List (List ℕ)) : ℕ → List (List ℕ) → 
   file : (n : ℕ) (bytes : List ℕ) (files : List (List ℕ)) (ts us : List Token) (ls : List Lexeme) → AreTokens bytes ls → ShowAll n names texts ts ls → AreFiles names texts (suc n) files us
       → AreFiles names texts n (bytes ∷ files) (ts ++ us)
 
+-- what the files are cut into, each by itself, joined in their order
+pub data AreCut : List (List ℕ) → List Lexeme → Type 0 where
+  none : AreCut [] []
+  file : (bytes : List ℕ) (files : List (List ℕ)) (ls ms : List Lexeme) → AreTokens bytes ls → AreCut files ms → AreCut (bytes ∷ files) (ls ++ ms)
+
 -- the place behind the last byte of the last file, `start` without files
 abbrev pub end_of : Place → ℕ → List (List ℕ) → Place
 end_of start n [] = start

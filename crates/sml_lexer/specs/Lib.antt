@@ -20,4 +20,5 @@ pub mod Reserved
 pub mod Shown
 pub mod Spellings
 pub mod Steps
+pub mod Stored
 pub mod Tokens

@@ -1,8 +1,9 @@
 //! Tokens with their names and texts put away.
 
-ghost use Rattle.std.specs.Prelude.{◌≡◌, ◌≤◌, ◌<◌, ◌+◌, ◌^◌, length, vec_len, Some, IfOk};
+ghost use Rattle.std.specs.Prelude.{◌≡◌, ◌≤◌, ◌<◌, ◌+◌, ◌^◌, length, vec_len, Some, IfOk, OnOk};
 ghost use Rattle.sml_lexer.specs.Shown.{meaning_in, Extends};
 ghost use Rattle.sml_lexer.specs.Steps.{kind_meaning};
+ghost use Rattle.sml_lexer.specs.Stored.{names_with, texts_with, IsNext};
 
 use crate::step::Kind;
 use crate::token::TokenKind;
@@ -18,6 +19,9 @@ pub fn stored(
     requires names { length names.old < 2 ^ 32 }
     requires texts { vec_len texts.old < 2 ^ 32 }
     ensures means { IfOk result (λ k. meaning_in names.new texts.new.items k ≡ Some (kind_meaning kind text.now)) }
+    ensures name_list { OnOk result (names.new ≡ names_with names.old (kind_meaning kind text.now)) }
+    ensures text_list { OnOk result (texts.new.items ≡ texts_with texts.old.items (kind_meaning kind text.now)) }
+    ensures next { IfOk result (λ k. IsNext (length texts.old.items) k (length texts.new.items)) }
     ensures names { Extends names.old names.new }
     ensures texts { Extends texts.old.items texts.new.items }
     ensures name_count { length names.new ≤ length names.old + 1 }

@@ -6,10 +6,11 @@ use Rattle.sml_lexer.specs.Drafts.{IsFileErr, IsFileOk}
 use Rattle.sml_lexer.specs.Cited.{all_cited}
 use Rattle.sml_lexer.specs.Shown.{Extends}
 use Rattle.sml_lexer.proofs.DraftLemmas.{extends-trans}
-use Rattle.sml_lexer.specs.Files.{total, limit, HasTokens, AreFiles, end_of}
+use Rattle.sml_lexer.specs.Files.{total, limit, HasTokens, AreFiles, AreCut, end_of}
+use Rattle.sml_lexer.specs.Stored.{AreCounted}
 use Rattle.sml_lexer.specs.Programs.{IsRefused}
 use Rattle.std.specs.List.{AllByRecursion}
-use Rattle.sml_lexer.proofs.FilesLemmas.{IsProgress, taken, total_more, total_part, have_tokens, no_progress, more_progress, accepted, files_cited, too_long_there, fault_there, count_there}
+use Rattle.sml_lexer.proofs.FilesLemmas.{IsProgress, AreStored, none_stored, more_stored, taken, total_more, total_part, have_tokens, no_progress, more_progress, accepted, files_cited, too_long_there, fault_there, count_there}
 use Rattle.sml_lexer.proofs.files.tokens.Goals as goal
 
 pub returns-in-Some-clause-err : goal.returns-in-Some-clause-err
@@ -18,6 +19,7 @@ returns-in-Some-clause-err c = let h = c.in-Some.ensures in too_long_there c.arg
 pub loop-i-init : goal.loop-i-init
 loop-i-init c = let d = c.in_ok-draft.ensures in record {
   progress = no_progress c.args.first _ _ _ d.tokens;
+  stored = none_stored c.args.names.now c.args.texts.now _ _ _ d.names.0 d.texts.0 d.tokens;
   token_count = let h = ap length d.tokens in let n : vec_len c.in_ok-draft.draft.tokens ≡ length c.in_ok-draft.draft.tokens.items = search rules in omega (arith, h, n);
   more_names = ([], d.names.0 ∙ sym (append-nil _));
   more_texts = ([], d.texts.0 ∙ sym (append-nil _));
@@ -72,6 +74,9 @@ loop-i-preserved c =
           (sym (taken (λ f. f.items) c.args.files.now c.loop-i.i x c.loop-i-test.true c.index-files-i.is))
           (more_progress c.args.first _ _ _ _ _ _ ok.tokens _ _ i.progress e.names e.texts x.items (c.loop-i.i + c.args.first) (count_there c.args.first (λ f. f.items) c.args.files.now c.loop-i.i c.loop-i-test.true)
           ok.lexemes ok.are ok.shown ok.items _ ok.end_is);
+      stored = subst (λ fs. AreStored c.args.names.now c.args.texts.now fs c.file_tokens.new.draft.names c.file_tokens.new.draft.texts.items c.file_tokens.new.draft.tokens.items)
+          (sym (taken (λ f. f.items) c.args.files.now c.loop-i.i x c.loop-i-test.true c.index-files-i.is))
+          (more_stored c.args.names.now c.args.texts.now _ _ _ _ i.stored x.items ok.lexemes ok.are _ _ ok.tokens _ ok.names_are ok.texts_are ok.counted ok.items);
       token_count = let a = i.token_count in let b = e.token_count in omega (arith, t, n, a, b);
       more_names = extends-trans _ _ _ i.more_names e.names;
       more_texts = extends-trans _ _ _ i.more_texts e.texts;
@@ -97,11 +102,18 @@ invariant_of-result-clause-cited c =
 pub returns-clause-ok : goal.returns-clause-ok
 returns-clause-ok c =
     let p = c.loop-i.invariant.progress in
+    let s = c.loop-i.invariant.stored in
     let all = ap (map (λ f. f.items)) (take_all c.loop-i.i c.args.files.now c.loop-i-test.false) in
     record {
       tokens = subst (λ fs. AreFiles c.loop-i.draft.names c.from_vec-2.result c.args.first fs c.from_vec.result) all
           (subst (λ ts. AreFiles c.loop-i.draft.names c.from_vec-2.result c.args.first (map (λ f. f.items) (take c.loop-i.i c.args.files.now)) ts) (sym c.from_vec.ensures)
           (subst (λ xs. AreFiles c.loop-i.draft.names xs c.args.first (map (λ f. f.items) (take c.loop-i.i c.args.files.now)) c.loop-i.draft.tokens.items) (sym c.from_vec-2.ensures) p.are));
+      lexemes = s.lexemes;
+      cut = subst (λ fs. AreCut fs s.lexemes) all s.cut;
+      names_are = s.names_are;
+      texts_are = c.from_vec-2.ensures ∙ s.texts_are;
+      counted = subst (λ ts. AreCounted (length c.args.texts.now) ts (length c.from_vec-2.result)) (sym c.from_vec.ensures)
+          (subst (λ xs. AreCounted (length c.args.texts.now) c.loop-i.draft.tokens.items (length xs)) (sym c.from_vec-2.ensures) s.counted);
       end = p.end_is ∙ ap (end_of (record { file = 0; line = 1; col = 1 }) c.args.first) all;
       more_names = c.loop-i.invariant.more_names;
       more_texts = subst (Extends c.args.texts.now) (sym c.from_vec-2.ensures) c.loop-i.invariant.more_texts;
