@@ -1,5 +1,5 @@
 -- The tokens of files are one list, with one list of names and one of texts.
-use Rattle.std.proofs.Common.{◌≡◌, ℕ, suc, Bool, List, [], ◌∷◌, ◌++◌, Option, Some, None, length, refl, sym, ap, ◌∙◌, subst}
+use Rattle.std.proofs.Common.{◌≡◌, ℕ, suc, Bool, List, ◌∷◌, ◌++◌, Option, Some, None, length, refl, sym, ap, ◌∙◌, subst}
 use Rattle.std.specs.Prelude.{slice_get, option_map, ◌==◌, if◌then◌else◌, true, false}
 use Rattle.std.proofs.lemmas.Bool.{eqb-true}
 use Rattle.smlc_base.specs.Texts.{AreDistinct}
@@ -16,11 +16,10 @@ use Rattle.sml_lexer.specs.Meanings as meaning
 use Rattle.sml_lexer.specs.Programs.{IsLexed, AreAlike}
 use Rattle.sml_lexer.specs.Shown.{meaning_in, Shows, ShowAll}
 use Rattle.sml_lexer.specs.Shown as shown
-use Rattle.sml_lexer.specs.Stored.{names_with, names_of, texts_of, IsNext, AreCounted}
-use Rattle.sml_lexer.specs.Tokens.{Lexeme, AreTokens}
+use Rattle.sml_lexer.specs.Stored.{names_of, texts_of, IsNext, AreCounted}
+use Rattle.sml_lexer.specs.Tokens.{Lexeme}
 use Rattle.sml_lexer.proofs.FileLemmas.{tokens_unique}
 use Rattle.sml_lexer.proofs.StoredLemmas.{counted_split}
-use Rattle.smlc_base.proofs.TextLemmas.{with_text-distinct}
 
 -- ---- one list of tokens of the definition
 
@@ -28,24 +27,6 @@ cut_once : (fs : List (List ℕ)) (ls ms : List Lexeme) → AreCut fs ls → Are
 cut_once fs ls ms files.AreCut.none files.AreCut.none = refl
 cut_once fs ls ms (files.AreCut.file f gs ks js h c) (files.AreCut.file f' gs' ks' js' h' c') =
     ap (λ (x : List Lexeme). x ++ js) (tokens_unique f ks ks' h h') ∙ ap (λ (x : List Lexeme). ks' ++ x) (cut_once gs js js' c c')
-
--- ---- names stay distinct
-
-named_distinct : (names : List (List ℕ)) (m : Meaning) → AreDistinct names → AreDistinct (names_with names m)
-named_distinct names (meaning.identifier s) h = with_text-distinct names s h
-named_distinct names (meaning.symbol s) h = with_text-distinct names s h
-named_distinct names (meaning.long s) h = with_text-distinct names s h
-named_distinct names (meaning.type_variable s) h = with_text-distinct names s h
-named_distinct names (meaning.word w) h = h
-named_distinct names (meaning.integer z) h = h
-named_distinct names meaning.word_constant h = h
-named_distinct names meaning.real h = h
-named_distinct names (meaning.character n) h = h
-named_distinct names (meaning.text codes) h = h
-
-names_distinct : (names : List (List ℕ)) (ls : List Lexeme) → AreDistinct names → AreDistinct (names_of names ls)
-names_distinct names [] h = h
-names_distinct names (l ∷ ls) h = names_distinct (names_with names l.meaning) ls (named_distinct names l.meaning h)
 
 -- ---- one kind for a meaning
 
@@ -132,15 +113,14 @@ module _ (names texts : List (List ℕ)) where
 
 -- ---- one answer
 
-pub lexed_once : (names texts : List (List ℕ)) (first : ℕ) (fs : List (List ℕ)) (a b : Lexed) → AreDistinct names → IsLexed names texts first fs a → IsLexed names texts first fs b → AreAlike a b
-lexed_once names texts first fs a b distinct h k =
+pub lexed_once : (names texts : List (List ℕ)) (first : ℕ) (fs : List (List ℕ)) (a b : Lexed) → IsLexed names texts first fs a → IsLexed names texts first fs b → AreAlike a b
+lexed_once names texts first fs a b h k =
     let same = cut_once fs h.lexemes k.lexemes h.cut k.cut in
     let ns : a.names ≡ b.names = h.names_are ∙ ap (names_of names) same ∙ sym k.names_are in
     let xs : a.texts ≡ b.texts = h.texts_are ∙ ap (texts_of texts) same ∙ sym k.texts_are in
-    let clear = subst AreDistinct (sym h.names_are) (names_distinct names h.lexemes distinct) in
     let tokens = subst (λ (x : List (List ℕ)). AreFiles a.names x first fs b.tokens) (sym xs) (subst (λ (x : List (List ℕ)). AreFiles x b.texts first fs b.tokens) (sym ns) k.tokens) in
     record {
-      tokens = files_once a.names a.texts clear first fs a.tokens b.tokens h.tokens tokens (length texts) (length a.texts) (length b.texts) h.counted k.counted;
+      tokens = files_once a.names a.texts a.distinct first fs a.tokens b.tokens h.tokens tokens (length texts) (length a.texts) (length b.texts) h.counted k.counted;
       names = ns;
       texts = xs;
       end = h.end ∙ sym k.end;

@@ -1,5 +1,5 @@
 -- Names, texts and the numbers of string constants behind tokens one after another.
-use Rattle.std.proofs.Common.{◌≡◌, ℕ, List, [], ◌∷◌, ◌++◌, refl, sym, ap, ◌∙◌, subst}
+use Rattle.std.proofs.Common.{◌≡◌, ℕ, List, [], ◌∷◌, ◌++◌, refl, subst}
 use Rattle.sml_lexer.specs.declared.token.Token.{Token}
 use Rattle.sml_lexer.specs.Stored.{names_with, texts_with, names_of, texts_of, IsNext, AreCounted}
 use Rattle.sml_lexer.specs.Tokens.{Lexeme}

@@ -5,3 +5,4 @@ pub mod Fronts
 pub mod Named
 pub mod Marks
 pub mod Telling
+pub mod OneThing

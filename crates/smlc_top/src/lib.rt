@@ -6,6 +6,7 @@
 
 pub mod build;
 pub mod front;
+pub mod laws;
 pub mod top;
 pub mod types;
 

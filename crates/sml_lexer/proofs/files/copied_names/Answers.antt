@@ -1,4 +1,4 @@
-use Rattle.std.proofs.Common.{◌≡◌, ap, sym, ◌∙◌}
+use Rattle.std.proofs.Common.{ap, ◌∙◌}
 use Rattle.smlc_base.specs.Texts.{with_text}
 use Rattle.sml_lexer.proofs.NameLemmas.{one_more_name}
 use Rattle.sml_lexer.proofs.files.copied_names.Goals as goal
