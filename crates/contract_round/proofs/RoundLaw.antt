@@ -34,22 +34,22 @@ module _ (texts : List (List ℕ)) (c : Code) (w : IsWhole c) where
     bodies = λ f i n e. absurd (cc);
   }
 
-  walked : Walked texts start nobody_pays c (definition.round texts c)
+  pub walked : Walked texts start nobody_pays c (definition.round texts c)
   walked = walks texts c outset start nobody_pays knows (λ x. let h = once x in omega arith) (no_eq c w.functions)
 
   abbrev d : Code
   d = definition.round texts c
 
-  fewer_points : (p : Point) → times p (labels d) ≤ times p (labels c)
+  pub fewer_points : (p : Point) → times p (labels d) ≤ times p (labels c)
   fewer_points p = let h = walked.weighs (of_point p) in let e = weigh_times p c in let g = weigh_times p d in let o = owed_free c in omega arith
 
   hidden : Hidden (labels d) walked.gone
   hidden = hidden_all (labels d) walked.gone walked.fine (λ p n. let h = walked.weighs (of_point p) in let e = weigh_times p c in let g = weigh_times p d in let o = owed_free c in let k = w.points p n in omega arith)
 
-  one_round : Contracts texts (labels d) walked.least start c d
+  pub one_round : Contracts texts (labels d) walked.least start c d
   one_round = walked.stands (labels d) hidden walked.least (omega arith)
 
-  round_whole : IsWhole d
+  pub round_whole : IsWhole d
   round_whole = record {
     closed = nothing_in (free_code d) (λ x i. free_of texts (labels d) walked.least start c d one_round (λ y. ⊥) (record { names = λ x y i e. absurd (cc); blocks = λ z t e. absurd (cc); bodies = λ f b i e. absurd (cc) }) x i);
     once = weighs_distinct (bound d) (λ x. let h = walked.weighs (of_name x) in let e = bound_weigh x d in let k = once x in let o = owed_free c in omega arith);

@@ -1,0 +1,4 @@
+pub mod Fair
+pub mod Carried
+pub mod Words
+pub mod Slim
