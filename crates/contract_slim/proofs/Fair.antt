@@ -46,7 +46,7 @@ module _ (K : ℕ → Type 0) (C : List Layout) where
 -- ---- The variables that name no function
 
 abbrev mutual
-  plain : Code → List ℕ
+  pub plain : Code → List ℕ
   plain (Make x shape atoms c) = x ∷ plain c
   plain (Pick x i a c) = x ∷ plain c
   plain (Prim x f atoms c) = x ∷ plain c
@@ -59,11 +59,11 @@ abbrev mutual
   plain (Throw a) = []
   plain Halt = []
 
-  plain_functions : Functions → List ℕ
+  pub plain_functions : Functions → List ℕ
   plain_functions NoFunction = []
   plain_functions (Function f p params b fs) = params ++ (plain b ++ plain_functions fs)
 
-  plain_rules : Rules → List ℕ
+  pub plain_rules : Rules → List ℕ
   plain_rules (Otherwise c) = plain c
   plain_rules (Rule tests c rules) = plain c ++ plain_rules rules
 
@@ -175,23 +175,27 @@ module _ (K : ℕ → Type 0) (C : List Layout) (only : (l : Layout) → IsAmong
     fair_rules (Rule ts c rs) h m =
         (fair c (λ y i. h y (among_left y (plain c) (plain_rules rs) i)) (λ l i. m l (among_left l (layouts c) (layouts_rules rs) i)), fair_rules rs (λ y i. h y (among_right y (plain c) (plain_rules rs) i)) (λ l i. m l (among_right l (layouts c) (layouts_rules rs) i)))
 
--- of a program whose variables are bound once, with a set of closed functions
-module _ (c : Code) (closed : List ℕ) (d : IsDistinct (bound c)) (a : AreClosed (layouts c) closed) where
+module _ (c : Code) (d : IsDistinct (bound c)) where
   once : (x : ℕ) → many x (plain c) + named x (layouts c) ≤ 1
   once x = let h = distinct_weighs (bound c) d x in let e = parted x c in omega (arith, h, e)
 
-  unnamed : (x : ℕ) → IsAmong x (plain c) → In x closed → ⊥
-  unnamed x i k =
-      let r = a x k in
-      let n = named_one x (layouts c) r.0 r.1 r.2 in
+  -- a variable that is bound names no function
+  pub plain_apart : (x : ℕ) → IsAmong x (plain c) → (l : Layout) → IsAmong l (layouts c) → l.name ≡ x → ⊥
+  plain_apart x i l j e =
+      let n = named_one x (layouts c) l j e in
       let m = among_weighs x (plain c) i in
       let o = once x in
       omega (arith, n, m, o)
 
+-- of a program whose variables are bound once, with a set of closed functions
+module _ (c : Code) (closed : List ℕ) (d : IsDistinct (bound c)) (a : AreClosed (layouts c) closed) where
+  unnamed : (x : ℕ) → IsAmong x (plain c) → In x closed → ⊥
+  unnamed x i k = let r = a x k in plain_apart c d x i r.0 r.1 r.2
+
   pub only_closed : (l : Layout) → IsAmong l (layouts c) → In l.name closed → (y : ℕ) → In y l.free → (y ≡ l.name) ⊎ In y closed
   only_closed l i k y j =
       let r = a l.name k in
-      let o = once l.name in
+      let o = once c d l.name in
       let same : r.0 ≡ l = one_named l.name (layouts c) (omega (arith, o)) r.0 l r.1 i r.2 refl in
       in_cases y l.name closed (r.3 y (subst (λ (t : Layout). In y t.free) (sym same) j))
 

@@ -33,7 +33,7 @@ use Rattle.contract_slim.proofs.Words.{words_more, most_more}
 
 -- ---- Lists
 
-kept_in : (P : ℕ → Bool) (xs : List ℕ) (x : ℕ) → In x (filter P xs) → (P x ≡ true) × In x xs
+pub kept_in : (P : ℕ → Bool) (xs : List ℕ) (x : ℕ) → In x (filter P xs) → (P x ≡ true) × In x xs
 kept_in P [] x h = absurd (cc)
 kept_in P (y ∷ xs) x h = by (P y) refl (kept_in P xs x) h
   where
@@ -41,7 +41,7 @@ kept_in P (y ∷ xs) x h = by (P y) refl (kept_in P xs x) h
     by true e f g = ⊎_elim (λ (s : x ≡ y). (ap P s ∙ e, in_head x y xs s)) (λ (s : In x (filter P xs)). let r = f s in (r.0, in_tail x y xs r.1)) (in_cases x y (filter P xs) g)
     by false e f g = let r = f g in (r.0, in_tail x y xs r.1)
 
-in_kept : (P : ℕ → Bool) (xs : List ℕ) (x : ℕ) → P x ≡ true → In x xs → In x (filter P xs)
+pub in_kept : (P : ℕ → Bool) (xs : List ℕ) (x : ℕ) → P x ≡ true → In x xs → In x (filter P xs)
 in_kept P [] x e h = absurd (cc)
 in_kept P (y ∷ xs) x e h = by (P y) refl (in_kept P xs x e) (in_cases x y xs h)
   where
@@ -56,7 +56,7 @@ above lo x [] a i = absurd i
 above lo x (y ∷ xs) a (inl e) = let h = a.0 in omega (arith, h, e)
 above lo x (y ∷ xs) a (inr i) = let h = above (suc y) x xs a.1 i in let g = a.0 in omega (arith, h, g)
 
-ascending_distinct : (lo : ℕ) (xs : List ℕ) → IsAscending lo xs → Distinct xs
+pub ascending_distinct : (lo : ℕ) (xs : List ℕ) → IsAscending lo xs → Distinct xs
 ascending_distinct lo [] a = tt
 ascending_distinct lo (x ∷ xs) a =
     ((λ i. let h = above (suc x) x xs a.1 i in omega (arith, h)), ascending_distinct (suc x) xs a.1)
@@ -75,7 +75,7 @@ named_in (k ∷ ls) x (inr i) = let r = named_in ls x i in (r.0, inr r.1, r.2)
 
 -- the point of a function is a label
 mutual
-  point_stands : (c : Code) (l : Layout) → IsAmong l (layouts c) → IsAmong l.point (labels c)
+  pub point_stands : (c : Code) (l : Layout) → IsAmong l (layouts c) → IsAmong l.point (labels c)
   point_stands (Make x shape atoms c) l i = point_stands c l i
   point_stands (Pick x n a c) l i = point_stands c l i
   point_stands (Prim x f atoms c) l i = point_stands c l i
@@ -108,7 +108,7 @@ mutual
 
 -- what a function holds is a set
 mutual
-  free_ascends : (c : Code) (l : Layout) → IsAmong l (layouts c) → IsAscending 0 l.free
+  pub free_ascends : (c : Code) (l : Layout) → IsAmong l (layouts c) → IsAscending 0 l.free
   free_ascends (Make x shape atoms c) l i = free_ascends c l i
   free_ascends (Pick x n a c) l i = free_ascends c l i
   free_ascends (Prim x f atoms c) l i = free_ascends c l i
@@ -142,7 +142,7 @@ or_later : (a b : Bool) → b ≡ true → (a || b) ≡ true
 or_later true b e = refl
 or_later false b e = e
 
-label_of : (p : Point) (ps : List Point) → IsAmong p ps → is_label ps p ≡ true
+pub label_of : (p : Point) (ps : List Point) → IsAmong p ps → is_label ps p ≡ true
 label_of p [] i = absurd i
 label_of p (q ∷ ps) (inl e) = or_first (is_point q p) (is_label ps p) (subst (λ t. is_point t p ≡ true) e (point_is_one p))
 label_of p (q ∷ ps) (inr i) = or_later (is_point q p) (is_label ps p) (label_of p ps i)

@@ -1,0 +1,3 @@
+pub mod Classes
+pub mod Weight
+pub mod Factor
