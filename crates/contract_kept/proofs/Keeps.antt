@@ -243,7 +243,7 @@ module _ (q : Cps) where
       rules_keep (Rule ts c rules) K a s r =
           rule_kept (tests_left texts K a ts) (walk texts K c) (rules_walk texts K a rules) (tests_kept texts K s a ts r.0) (walk_keeps c K s r.1) (rules_keep rules K a s r.2)
 
-    round_keeps : (c : Code) → InRange q c → InRange q (round texts c)
+    pub round_keeps : (c : Code) → InRange q c → InRange q (round texts c)
     round_keeps c r = walk_keeps c outset (record { places = λ x. tt; blocks = λ x. tt; bodies = λ f. tt }) r
 
     rounds_keep : (n : ℕ) (c : Code) → InRange q c → InRange q (rounds texts n c)

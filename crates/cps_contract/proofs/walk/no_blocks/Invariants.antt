@@ -1,0 +1,9 @@
+use Rattle.std.proofs.Common.{◌≡◌, ℕ, None, length}
+use Rattle.std.specs.Prelude.{get_or}
+use Rattle.cps_contract.proofs.walk.no_blocks.Given as goal
+
+abbrev pub invariant-loop : goal.invariant-loop
+invariant-loop l = record {
+  count : length l.blocks.items ≡ l.counter;
+  each : (x : ℕ) → get_or l.blocks.items x None ≡ None;
+}
