@@ -1,5 +1,5 @@
 -- The nodes of a tree are those of its body and those of the bodies that stand in it.
-use Rattle.std.proofs.Common.{◌≡◌, ℕ, zero, suc, ◌+◌, ◌≤◌, ◌<◌, List, [], ◌∷◌, ◌++◌, length, map, flat_map, Some, None, slice_get, refl, ap, arith}
+use Rattle.std.proofs.Common.{◌≡◌, ℕ, zero, suc, ◌+◌, ◌≤◌, ◌<◌, List, [], ◌∷◌, ◌++◌, length, map, flat_map, Option, Some, None, slice_get, refl, ap, arith}
 use Rattle.cps_ir.specs.declared.atom.Test.{Test}
 use Rattle.cps_ir.specs.declared.body.Function.{Function as Entry}
 use Rattle.cps_ir.specs.declared.body.Rule.{Rule as Chosen}
@@ -13,7 +13,7 @@ use Rattle.cps_ir.specs.Kept.{bind_parts, end_parts, body_parts}
 use Rattle.cps_ir.specs.Program.{code_at, code_within, code_of_binds, code_of_end, code_of_body, functions_of, rules_of}
 use Rattle.cps_free.proofs.Unfold.{AreNumbered, code_unfold}
 use Rattle.contract_laws.specs.Redex.{nodes, nodes_functions, nodes_rules, count_tests}
-use Rattle.cps_contract.specs.Own.{binds_own, rules_own, end_own, body_own}
+use Rattle.cps_contract.specs.Own.{binds_own, rules_own, end_own, body_own, found_own, found_parts}
 
 abbrev pub parts_nodes : (ℕ → Code) → List ℕ → ℕ
 parts_nodes part [] = 0
@@ -77,8 +77,8 @@ module _ (bodies : List Body) (numbered : AreNumbered bodies) (old rest new : Li
   before : parts_nodes (code_at bodies) old ≡ parts_nodes (code_at bodies) rest + nodes (code_at bodies at)
   before = let p = parts_append (code_at bodies) rest (at ∷ []) in let e = ap (parts_nodes (code_at bodies)) popped in omega arith
 
-  pub body_counted : (b : Body) → slice_get bodies at ≡ Some b → after ≡ count + body_own b → new ≡ rest ++ body_parts b → (after + parts_nodes (code_at bodies) new ≡ count + parts_nodes (code_at bodies) old) × (parts_nodes (code_at bodies) new < parts_nodes (code_at bodies) old)
-  body_counted b e a n =
+  pub body_counted : (o : Option Body) → slice_get bodies at ≡ o → after ≡ count + found_own o → new ≡ rest ++ found_parts o → (after + parts_nodes (code_at bodies) new ≡ count + parts_nodes (code_at bodies) old) × (parts_nodes (code_at bodies) new < parts_nodes (code_at bodies) old)
+  body_counted (Some b) e a n =
       let p = before in
       let q = parts_append (code_at bodies) rest (body_parts b) in
       let w = ap (parts_nodes (code_at bodies)) n in
@@ -86,10 +86,9 @@ module _ (bodies : List Body) (numbered : AreNumbered bodies) (old rest new : Li
       let k = body_nodes (code_at bodies) b in
       let s = end_some b.end in
       (omega arith, omega arith)
-
-  pub none_counted : slice_get bodies at ≡ None → after ≡ count + 1 → new ≡ rest → (after + parts_nodes (code_at bodies) new ≡ count + parts_nodes (code_at bodies) old) × (parts_nodes (code_at bodies) new < parts_nodes (code_at bodies) old)
-  none_counted e a n =
+  body_counted None e a n =
       let p = before in
+      let q = parts_append (code_at bodies) rest [] in
       let w = ap (parts_nodes (code_at bodies)) n in
       let h = ap (λ c. nodes c) (code_none (length bodies) bodies at e) in
       (omega arith, omega arith)

@@ -1,10 +1,10 @@
 //! How many nodes a program has.
 
-ghost use Rattle.std.specs.Prelude.{◌≡◌, ◌+◌, [], ◌∷◌, ◌++◌, map, flat_map, IfOk, OnOk};
+ghost use Rattle.std.specs.Prelude.{◌≡◌, ◌+◌, [], ◌∷◌, ◌++◌, map, flat_map, slice_get, IfOk, OnOk};
 ghost use Rattle.cps_ir.specs.Kept.{bind_parts, end_parts, body_parts};
 ghost use Rattle.cps_ir.specs.Program.{tree_of};
 ghost use Rattle.contract_laws.specs.Redex.{nodes};
-ghost use Rattle.cps_contract.specs.Own.{bind_own, binds_own, rules_own, end_own, body_own};
+ghost use Rattle.cps_contract.specs.Own.{bind_own, binds_own, rules_own, end_own, body_own, found_own, found_parts};
 
 use cps_ir::{Bind, Body, Cps, End, Function, Rule};
 use smlc_base::NoMemory;
@@ -131,6 +131,25 @@ fn push_parts(work: &mut Vec<u32>, body: &Body) -> Result<(), NoMemory>
     push_end(work, &body.end)
 }
 
+// The nodes of the body of this number. One that isn't there is an end alone.
+fn own_at(bodies: &[Body], at: u32) -> Result<usize, NoMemory>
+    ensures { IfOk result (λ n. n ≡ found_own (slice_get bodies.now at)) }
+{
+    match bodies.get(at as usize) {
+        Some(body) => body_own(body),
+        None => Ok(1),
+    }
+}
+
+fn push_at(work: &mut Vec<u32>, bodies: &[Body], at: u32) -> Result<(), NoMemory>
+    ensures { OnOk result (work.new.items ≡ work.old.items ++ found_parts (slice_get bodies.now at)) }
+{
+    match bodies.get(at as usize) {
+        Some(body) => push_parts(work, body),
+        None => Ok(()),
+    }
+}
+
 /// The nodes of all bodies: bindings, functions, tests and ends.
 ///
 /// # Errors
@@ -144,14 +163,9 @@ pub fn nodes_of(alloc: Global, program: &Cps) -> Result<usize, NoMemory>
     let mut work = Vec::new(alloc);
     work.push(0)?;
     while let Some(at) = work.pop() {
-        match bodies.get(at as usize) {
-            Some(body) => {
-                let own = body_own(body)?;
-                count = sum(count, own)?;
-                push_parts(&mut work, body)?;
-            }
-            None => count = sum(count, 1)?,
-        }
+        let own = own_at(bodies, at)?;
+        count = sum(count, own)?;
+        push_at(&mut work, bodies, at)?;
     }
     Ok(count)
 }
