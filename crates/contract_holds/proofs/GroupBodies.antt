@@ -23,7 +23,7 @@ use Rattle.contract_group.specs.declared.task.Task.{Task}
 use Rattle.contract_group.specs.Bodies.{and_bind}
 use Rattle.contract_group.specs.Group.{group_places, group_placed, group_kept, group_tasks}
 use Rattle.contract_steps.specs.State.{State}
-use Rattle.contract_steps.specs.Steps.{put_group, fix_step}
+use Rattle.contract_steps.specs.Steps.{put_group, step_fix}
 use Rattle.contract_holds.specs.Fits.{bodies_in, scope_in, binds_of, slots_of, AreOpen, TasksFit}
 use Rattle.contract_holds.specs.Turn.{Ready, Goes}
 use Rattle.contract_holds.proofs.Sums.{work_each}
@@ -165,7 +165,7 @@ module _ (texts : List (List ℕ)) (source : List Body) (counts : List Count) (t
       away i l gone (inr a) = ⊎_elim (λ (j : IsAmong i slots). gone (inr j)) (λ (j : IsAmong i (numbers from many)). let k = numbers_among i from many j in let k0 = k.0 in absurd (omega arith)) (among_append i slots (numbers from many) (subst (λ is. IsAmong i is) work_slots a))
 
   -- the state as the code makes it
-  pub fix_state : fix_step t rs fs s ≡ then
+  pub fix_state : step_fix t rs fs s ≡ then
   fix_state =
       ap (λ bs. record { places = group_places rs fs s.places; blocks = s.blocks; placed = group_placed rs fs s.placed; bodies = bs; work = group_tasks from rs fs s.work }) (ap (put_group t.slot kept) (group_bodies_are rs fs s.bodies) ∙ put_is kept)
       ∙ ap (λ w. record { places = group_places rs fs s.places; blocks = s.blocks; placed = group_placed rs fs s.placed; bodies = bodies; work = w }) (group_tasks_are from rs fs s.work)

@@ -6,12 +6,10 @@ use Rattle.cps_ir.specs.declared.atom.Atom.{Atom}
 use Rattle.cps_ir.specs.declared.atom.Atom.TheVariants as atom
 use Rattle.cps_ir.specs.declared.atom.Shape.{Shape}
 use Rattle.cps_ir.specs.declared.body.Bind.{Bind}
-use Rattle.cps_ir.specs.declared.body.Bind.TheVariants as bind
 use Rattle.cps_ir.specs.declared.body.End.{End}
 use Rattle.cps_ir.specs.declared.body.End.TheVariants as end
 use Rattle.cps_ir.specs.Code.{Equal, Throw}
 use Rattle.contract_round.specs.Round.{atoms_in}
-use Rattle.cps_ir.specs.declared.body.Body.{Body}
 use Rattle.contract_census.specs.declared.counts.Count.{Count}
 use Rattle.contract_known.specs.Known.{place_of}
 use Rattle.contract_binds.specs.Binds.{make_left, make_blocks, prim_left}
@@ -20,7 +18,7 @@ use Rattle.contract_group.specs.declared.task.Placed.{Placed}
 use Rattle.contract_group.specs.declared.task.Task.{Task}
 use Rattle.contract_group.specs.Bodies.{with_end}
 use Rattle.contract_steps.specs.State.{State}
-use Rattle.contract_steps.specs.Steps.{put_left, with_bodies, BindStep, has_params, placed_for, without_placed, put_arguments, go_on, place_call, CallBy, CallStep, EndStep}
+use Rattle.contract_steps.specs.Steps.{put_left, with_bodies, step_make, step_prim, has_params, placed_for, without_placed, put_arguments, go_on, place_call, CallBy, CallStep, EndStep}
 
 pub same_state : (n m : State) → n.places ≡ m.places → n.blocks ≡ m.blocks → n.placed ≡ m.placed → n.bodies ≡ m.bodies → n.work ≡ m.work → n ≡ m
 same_state n m a b c d e =
@@ -30,22 +28,20 @@ same_state n m a b c d e =
     ∙ ap (λ x. record { places = m.places; blocks = m.blocks; placed = m.placed; bodies = x; work = n.work }) d
     ∙ ap (λ x. record { places = m.places; blocks = m.blocks; placed = m.placed; bodies = m.bodies; work = x }) e
 
-module _ (source : List Body) (counts : List Count) (t : Task) (b : Bind) (s n : State) (view : List Atom) (v : view ≡ s.places) where
-  pub make_step : (x : ℕ) (shape : Shape) (atoms us : List Atom) (left : Option Bind) → b ≡ bind.Make x shape atoms → us ≡ atoms → left ≡ make_left counts view x shape us → n.places ≡ s.places → n.blocks ≡ make_blocks counts t.root view x shape us s.blocks → n.placed ≡ s.placed → n.bodies ≡ put_left t.slot left s.bodies → n.work ≡ s.work → BindStep source counts t b s n
-  make_step x shape atoms us left e u l places blocks placed bodies work =
-      subst (λ d. BindStep source counts t d s n) (sym e)
-      (same_state n _ places
-      (blocks ∙ ap (λ w. make_blocks counts t.root w x shape us s.blocks) v ∙ ap (λ w. make_blocks counts t.root s.places x shape w s.blocks) u)
+module _ (counts : List Count) (t : Task) (s n : State) (view : List Atom) (v : view ≡ s.places) where
+  pub make_is : (x : ℕ) (shape : Shape) (atoms : List Atom) (left : Option Bind) → left ≡ make_left counts view x shape atoms → n.places ≡ s.places → n.blocks ≡ make_blocks counts t.root view x shape atoms s.blocks → n.placed ≡ s.placed → n.bodies ≡ put_left t.slot left s.bodies → n.work ≡ s.work → n ≡ step_make counts t x shape atoms s
+  make_is x shape atoms left l places blocks placed bodies work =
+      same_state n (step_make counts t x shape atoms s) places
+      (blocks ∙ ap (λ w. make_blocks counts t.root w x shape atoms s.blocks) v)
       placed
-      (bodies ∙ ap (λ o. put_left t.slot o s.bodies) (l ∙ ap (λ w. make_left counts w x shape us) v ∙ ap (λ w. make_left counts s.places x shape w) u))
-      work)
+      (bodies ∙ ap (λ o. put_left t.slot o s.bodies) (l ∙ ap (λ w. make_left counts w x shape atoms) v))
+      work
 
-  pub prim_step : (x : ℕ) (f : Primitive) (atoms us : List Atom) (left : Option Bind) → b ≡ bind.Prim x f atoms → us ≡ atoms → left ≡ prim_left counts view x f us → n.places ≡ s.places → n.blocks ≡ s.blocks → n.placed ≡ s.placed → n.bodies ≡ put_left t.slot left s.bodies → n.work ≡ s.work → BindStep source counts t b s n
-  prim_step x f atoms us left e u l places blocks placed bodies work =
-      subst (λ d. BindStep source counts t d s n) (sym e)
-      (same_state n _ places blocks placed
-      (bodies ∙ ap (λ o. put_left t.slot o s.bodies) (l ∙ ap (λ w. prim_left counts w x f us) v ∙ ap (λ w. prim_left counts s.places x f w) u))
-      work)
+  pub prim_is : (x : ℕ) (f : Primitive) (atoms : List Atom) (left : Option Bind) → left ≡ prim_left counts view x f atoms → n.places ≡ s.places → n.blocks ≡ s.blocks → n.placed ≡ s.placed → n.bodies ≡ put_left t.slot left s.bodies → n.work ≡ s.work → n ≡ step_prim counts t x f atoms s
+  prim_is x f atoms left l places blocks placed bodies work =
+      same_state n (step_prim counts t x f atoms s) places blocks placed
+      (bodies ∙ ap (λ o. put_left t.slot o s.bodies) (l ∙ ap (λ w. prim_left counts w x f atoms) v))
+      work
 
 module _ (t : Task) (s : State) where
   pub call_placed : (a : Atom) (atoms us : List Atom) (p : Placed) (o : Option Placed) (view : List Atom) (xs : List ℕ) (n : State) → o ≡ placed_for s.placed a (length atoms) → o ≡ Some p → view ≡ s.places → us ≡ atoms_in (place_of view) atoms → xs ≡ p.params → n.places ≡ put_arguments xs us s.places → n.blocks ≡ s.blocks → n.placed ≡ without_placed a (length atoms) s.placed → n.bodies ≡ s.bodies → n.work ≡ s.work ++ go_on t p.body ∷ [] → CallStep t a atoms s n
@@ -70,12 +66,9 @@ module _ (t : Task) (s : State) where
       subst (λ q. CallBy t q a atoms s n) (sym none ∙ found)
       (e, subst (λ w. IsCallLeft (place_of w) a atoms e) v left, same_state n (with_bodies s (with_end t.slot e s.bodies)) places blocks (placed ∙ not_taken a (length atoms) s.placed (sym found ∙ none)) bodies work)
 
-  module _ (texts : List (List ℕ)) (n : State) (places : n.places ≡ s.places) (blocks : n.blocks ≡ s.blocks) (placed : n.placed ≡ s.placed) (work : n.work ≡ s.work) (view : List Atom) (v : view ≡ s.places) (r e : End) (bodies : n.bodies ≡ with_end t.slot e s.bodies) where
-    same_but_end : n ≡ with_bodies s (with_end t.slot e s.bodies)
-    same_but_end = same_state n (with_bodies s (with_end t.slot e s.bodies)) places blocks placed bodies work
-
+  module _ (texts : List (List ℕ)) (n : State) (view : List Atom) (v : view ≡ s.places) (r e : End) (ended : n ≡ with_bodies s (with_end t.slot e s.bodies)) where
     pub equal_step : (a b : Atom) (truth : Bool) (k : Atom) → r ≡ end.Equal a b truth k → IsEndLeft (place_of view) (Equal a b truth k) e → EndStep texts t r s n
-    equal_step a b truth k is left = subst (λ d. EndStep texts t d s n) (sym is) (e, subst (λ w. IsEndLeft (place_of w) (Equal a b truth k) e) v left, same_but_end)
+    equal_step a b truth k is left = subst (λ d. EndStep texts t d s n) (sym is) (e, subst (λ w. IsEndLeft (place_of w) (Equal a b truth k) e) v left, ended)
 
     pub throw_step : (a : Atom) → r ≡ end.Throw a → IsEndLeft (place_of view) (Throw a) e → EndStep texts t r s n
-    throw_step a is left = subst (λ d. EndStep texts t d s n) (sym is) (e, subst (λ w. IsEndLeft (place_of w) (Throw a) e) v left, same_but_end)
+    throw_step a is left = subst (λ d. EndStep texts t d s n) (sym is) (e, subst (λ w. IsEndLeft (place_of w) (Throw a) e) v left, ended)

@@ -1,5 +1,7 @@
 -- What each form of a body does with the state of a round.
 use Rattle.std.specs.Prelude.{◌≡◌, ℕ, suc, Bool, false, cond, List, [], ◌∷◌, ◌++◌, Option, Some, None, length, nat_eq, slice_get, slice_set, get_or}
+use Rattle.smlc_base.specs.declared.primitive.Primitive.{Primitive}
+use Rattle.cps_ir.specs.declared.atom.Shape.{Shape}
 use Rattle.cps_ir.specs.declared.atom.Atom.{Atom}
 use Rattle.cps_ir.specs.declared.atom.Atom.TheVariants as atom
 use Rattle.cps_ir.specs.declared.body.Function.{Function}
@@ -37,8 +39,8 @@ put_group slot [] bodies = bodies
 put_group slot (f ∷ fs) bodies = with_bind slot (bind.Fix (f ∷ fs)) bodies
 
 -- of functions with these roles
-abbrev pub fix_step : Task → List Role → List Function → State → State
-fix_step t rs fs s = record {
+abbrev pub step_fix : Task → List Role → List Function → State → State
+step_fix t rs fs s = record {
   places = group_places rs fs s.places;
   blocks = s.blocks;
   placed = group_placed rs fs s.placed;
@@ -50,26 +52,34 @@ fix_step t rs fs s = record {
 abbrev pub with_bodies : State → List Body → State
 with_bodies s bodies = record { places = s.places; blocks = s.blocks; placed = s.placed; bodies = bodies; work = s.work }
 
+module _ (counts : List Count) (t : Task) where
+  abbrev pub step_make : ℕ → Shape → List Atom → State → State
+  step_make x shape atoms s = record {
+    places = s.places;
+    blocks = make_blocks counts t.root s.places x shape atoms s.blocks;
+    placed = s.placed;
+    bodies = put_left t.slot (make_left counts s.places x shape atoms) s.bodies;
+    work = s.work;
+  }
+
+  abbrev pub step_pick : ℕ → ℕ → Atom → State → State
+  step_pick x i a s = record {
+    places = pick_places counts t.root s.places s.blocks x i a;
+    blocks = s.blocks;
+    placed = s.placed;
+    bodies = put_left t.slot (pick_kept counts t.root s.places s.blocks x i a) s.bodies;
+    work = s.work;
+  }
+
+  abbrev pub step_prim : ℕ → Primitive → List Atom → State → State
+  step_prim x f atoms s = with_bodies s (put_left t.slot (prim_left counts s.places x f atoms) s.bodies)
+
 module _ (source : List Body) (counts : List Count) (t : Task) where
   abbrev pub BindStep : Bind → State → State → Type 0
-  BindStep (bind.Make x shape atoms) s n =
-      n ≡ record {
-        places = s.places;
-        blocks = make_blocks counts t.root s.places x shape atoms s.blocks;
-        placed = s.placed;
-        bodies = put_left t.slot (make_left counts s.places x shape atoms) s.bodies;
-        work = s.work;
-      }
-  BindStep (bind.Pick x i a) s n =
-      n ≡ record {
-        places = pick_places counts t.root s.places s.blocks x i a;
-        blocks = s.blocks;
-        placed = s.placed;
-        bodies = put_left t.slot (pick_kept counts t.root s.places s.blocks x i a) s.bodies;
-        work = s.work;
-      }
-  BindStep (bind.Prim x f atoms) s n = n ≡ with_bodies s (put_left t.slot (prim_left counts s.places x f atoms) s.bodies)
-  BindStep (bind.Fix fs) s n = (rs : List Role) × AreRoles counts source fs rs × (n ≡ fix_step t rs fs s)
+  BindStep (bind.Make x shape atoms) s n = n ≡ step_make counts t x shape atoms s
+  BindStep (bind.Pick x i a) s n = n ≡ step_pick counts t x i a s
+  BindStep (bind.Prim x f atoms) s n = n ≡ step_prim counts t x f atoms s
+  BindStep (bind.Fix fs) s n = (rs : List Role) × AreRoles counts source fs rs × (n ≡ step_fix t rs fs s)
   BindStep (bind.Handler x) s n = n ≡ with_bodies s (with_bind t.slot (bind.Handler x) s.bodies)
   BindStep (bind.SetHandler a) s n = n ≡ with_bodies s (with_bind t.slot (bind.SetHandler (atom_in (place_of s.places) a)) s.bodies)
 
@@ -77,6 +87,10 @@ module _ (source : List Body) (counts : List Count) (t : Task) where
   abbrev pub BindsStep : List Bind → State → State → Type 0
   BindsStep [] s n = n ≡ s
   BindsStep (b ∷ binds) s n = (m : State) × BindStep b s m × BindsStep binds m n
+
+-- the end of the body that a task fills
+abbrev pub step_end : Task → End → State → State
+step_end t e s = with_bodies s (with_end t.slot e s.bodies)
 
 -- ---- Calls
 

@@ -4,7 +4,7 @@ ghost use Rattle.std.specs.Prelude.{◌≡◌, List, OnOk};
 ghost use Rattle.contract_roles.specs.Roles.{AreRoles};
 ghost use Rattle.contract_roles.specs.declared.group.Role.{Role};
 ghost use Rattle.contract_steps.specs.State.{state_of};
-ghost use Rattle.contract_steps.specs.Steps.{put_left, put_group, fix_step, BindStep};
+ghost use Rattle.contract_steps.specs.Steps.{put_left, put_group, step_fix, step_make, step_pick, step_prim, BindStep};
 
 use crate::round::Round;
 use contract_binds::{walk_make, walk_pick, walk_prim};
@@ -12,8 +12,8 @@ use contract_census::Count;
 use contract_group::{Task, place_all, put_bind, replace_all, stay_all};
 use contract_known::atom_in;
 use contract_roles::roles;
-use cps_ir::{Bind, Body, Cps, Function};
-use smlc_base::{NoMemory, Row};
+use cps_ir::{Atom, Bind, Body, Cps, Function, Shape, Variable};
+use smlc_base::{NoMemory, Primitive, Row};
 use std::alloc::Global;
 
 // What is left of a binding, if anything is.
@@ -38,7 +38,7 @@ fn put_group(bodies: &mut Vec<Body>, slot: u32, kept: Vec<Function>) -> Result<(
 }
 
 // Functions that are bound together.
-fn walk_fix(
+fn step_fix(
     alloc: Global,
     program: &Cps,
     counts: &[Count],
@@ -46,7 +46,7 @@ fn walk_fix(
     task: Task,
     functions: &[Function],
 ) -> Result<(), NoMemory>
-    ensures { OnOk result ((rs : List Role) × AreRoles counts.now program.now.bodies functions.now rs × (state_of round.new ≡ fix_step task rs functions.now (state_of round.old))) }
+    ensures { OnOk result ((rs : List Role) × AreRoles counts.now program.now.bodies functions.now rs × (state_of round.new ≡ step_fix task rs functions.now (state_of round.old))) }
 {
     let roles = roles(alloc, program, counts, functions)?;
     replace_all(&mut round.places, functions, roles.as_slice());
@@ -59,6 +59,71 @@ fn walk_fix(
         roles.as_slice(),
     )?;
     put_group(&mut round.bodies, task.slot, kept)
+}
+
+// A new block.
+fn step_make(
+    alloc: Global,
+    counts: &[Count],
+    round: &mut Round,
+    task: Task,
+    var: Variable,
+    shape: Shape,
+    atoms: &[Atom],
+) -> Result<(), NoMemory>
+    ensures { OnOk result (state_of round.new ≡ step_make counts.now task var shape atoms.now (state_of round.old)) }
+{
+    let left = walk_make(
+        alloc,
+        counts,
+        task.root,
+        round.places.as_slice(),
+        &mut round.blocks,
+        var,
+        shape,
+        atoms,
+    )?;
+    put_left(&mut round.bodies, task.slot, left)
+}
+
+// A field of a block.
+fn step_pick(
+    counts: &[Count],
+    round: &mut Round,
+    task: Task,
+    var: Variable,
+    field: u32,
+    of: Atom,
+) -> Result<(), NoMemory>
+    ensures { OnOk result (state_of round.new ≡ step_pick counts.now task var field of (state_of round.old)) }
+{
+    let left = walk_pick(
+        counts,
+        task.root,
+        &mut round.places,
+        round.blocks.as_slice(),
+        var,
+        field,
+        of,
+    );
+    put_left(&mut round.bodies, task.slot, left)
+}
+
+// The result of a primitive.
+fn step_prim(
+    alloc: Global,
+    counts: &[Count],
+    round: &mut Round,
+    task: Task,
+    var: Variable,
+    primitive: Primitive,
+    atoms: &[Atom],
+) -> Result<(), NoMemory>
+    ensures { OnOk result (state_of round.new ≡ step_prim counts.now task var primitive atoms.now (state_of round.old)) }
+{
+    let places = round.places.as_slice();
+    let left = walk_prim(alloc, counts, places, var, primitive, atoms)?;
+    put_left(&mut round.bodies, task.slot, left)
 }
 
 /// One binding of a body.
@@ -76,53 +141,21 @@ pub fn walk_bind(
 ) -> Result<(), NoMemory>
     ensures { OnOk result (BindStep program.now.bodies counts.now task bind.now (state_of round.old) (state_of round.new)) }
 {
-    let (root, slot) = (task.root, task.slot);
     match bind {
         Bind::Make { var, shape, atoms } => {
-            let left = walk_make(
-                alloc,
-                counts,
-                root,
-                round.places.as_slice(),
-                &mut round.blocks,
-                *var,
-                *shape,
-                atoms.items(),
-            )?;
-            put_left(&mut round.bodies, slot, left)
+            step_make(alloc, counts, round, task, *var, *shape, atoms.items())
         }
-        Bind::Pick { var, field, of } => {
-            let left = walk_pick(
-                counts,
-                root,
-                &mut round.places,
-                round.blocks.as_slice(),
-                *var,
-                *field,
-                *of,
-            );
-            put_left(&mut round.bodies, slot, left)
-        }
+        Bind::Pick { var, field, of } => step_pick(counts, round, task, *var, *field, *of),
         Bind::Prim {
             var,
             primitive,
             atoms,
-        } => {
-            let left = walk_prim(
-                alloc,
-                counts,
-                round.places.as_slice(),
-                *var,
-                *primitive,
-                atoms.items(),
-            )?;
-            put_left(&mut round.bodies, slot, left)
-        }
-        Bind::Fix(functions) => walk_fix(alloc, program, counts, round, task, functions.items()),
-        Bind::Handler(var) => put_bind(&mut round.bodies, slot, Bind::Handler(*var)),
+        } => step_prim(alloc, counts, round, task, *var, *primitive, atoms.items()),
+        Bind::Fix(functions) => step_fix(alloc, program, counts, round, task, functions.items()),
+        Bind::Handler(var) => put_bind(&mut round.bodies, task.slot, Bind::Handler(*var)),
         Bind::SetHandler(atom) => {
             let handler = atom_in(round.places.as_slice(), *atom);
-            put_bind(&mut round.bodies, slot, Bind::SetHandler(handler))
+            put_bind(&mut round.bodies, task.slot, Bind::SetHandler(handler))
         }
     }
 }

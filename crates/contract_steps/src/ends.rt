@@ -1,8 +1,8 @@
 //! The step at the end of a body.
 
-ghost use Rattle.std.specs.Prelude.{OnOk};
+ghost use Rattle.std.specs.Prelude.{◌≡◌, OnOk};
 ghost use Rattle.contract_steps.specs.State.{state_of};
-ghost use Rattle.contract_steps.specs.Steps.{EndStep};
+ghost use Rattle.contract_steps.specs.Steps.{step_end, EndStep};
 
 use crate::calls::walk_call;
 use crate::matches::walk_match;
@@ -12,6 +12,12 @@ use contract_group::{Task, put_end};
 use cps_ir::{Cps, End};
 use smlc_base::NoMemory;
 use std::alloc::Global;
+
+fn step_end(round: &mut Round, task: Task, end: End)
+    ensures { state_of round.new ≡ step_end task end (state_of round.old) }
+{
+    put_end(&mut round.bodies, task.slot, end);
+}
 
 /// The end of a body.
 ///
@@ -35,7 +41,7 @@ pub fn walk_end(
             next,
         } => {
             let end = equal_left(round.places.as_slice(), *left, *right, *truth, *next);
-            put_end(&mut round.bodies, task.slot, end);
+            step_end(round, task, end);
             Ok(())
         }
         End::Call { function, atoms } => walk_call(alloc, round, task, *function, atoms.items()),
@@ -54,11 +60,11 @@ pub fn walk_end(
         ),
         End::Throw(packet) => {
             let end = throw_left(round.places.as_slice(), *packet);
-            put_end(&mut round.bodies, task.slot, end);
+            step_end(round, task, end);
             Ok(())
         }
         End::Halt => {
-            put_end(&mut round.bodies, task.slot, End::Halt);
+            step_end(round, task, End::Halt);
             Ok(())
         }
     }

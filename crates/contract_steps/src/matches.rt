@@ -3,12 +3,12 @@
 ghost use Rattle.std.specs.Prelude.{◌≡◌, [], ◌∷◌, ◌++◌, length, IfOk, OnOk};
 ghost use Rattle.contract_rows.specs.Rows.{empty};
 ghost use Rattle.contract_steps.specs.State.{state_of};
-ghost use Rattle.contract_steps.specs.Steps.{task_from, rules_from, rule_bodies, rule_tasks, match_step};
+ghost use Rattle.contract_steps.specs.Steps.{task_from, rules_from, rule_bodies, rule_tasks, match_left, match_step};
 
 use crate::round::Round;
 use contract_group::{Task, put_empty, put_end};
 use contract_known::atom_in;
-use contract_rules::rules_left;
+use contract_rules::{RulesLeft, rules_left};
 use cps_ir::{Atom, Body, Cps, End, Rule};
 use smlc_base::{NoMemory, Row};
 use std::alloc::Global;
@@ -53,7 +53,37 @@ fn begin_rules(
     Ok(begun)
 }
 
-/// A match: the rules that are left, or the last body in its place.
+// The rules that are left, or the last body in the place of the match.
+fn match_left(
+    alloc: Global,
+    round: &mut Round,
+    task: Task,
+    subject: Atom,
+    left: RulesLeft,
+) -> Result<(), NoMemory>
+    ensures { OnOk result (state_of round.new ≡ match_left task subject left (state_of round.old)) }
+{
+    let root = task.root;
+    if left.rules.is_empty() {
+        round.work.push(Task {
+            body: left.otherwise,
+            ..task
+        })?;
+        return Ok(());
+    }
+    let (bodies, work) = (&mut round.bodies, &mut round.work);
+    let rules = begin_rules(alloc, bodies, work, root, left.rules.into_vec())?;
+    let otherwise = begin(alloc, bodies, work, root, left.otherwise)?;
+    let end = End::Match {
+        subject,
+        rules: Row::from_vec(rules),
+        otherwise,
+    };
+    put_end(bodies, task.slot, end);
+    Ok(())
+}
+
+/// A match.
 ///
 /// # Errors
 ///
@@ -80,35 +110,5 @@ pub fn walk_match(
         rules,
         otherwise,
     )?;
-    if left.rules.is_empty() {
-        round.work.push(Task {
-            body: left.otherwise,
-            ..task
-        })?;
-        return Ok(());
-    }
-    let rules = begin_rules(
-        alloc,
-        &mut round.bodies,
-        &mut round.work,
-        task.root,
-        left.rules.into_vec(),
-    )?;
-    let otherwise = begin(
-        alloc,
-        &mut round.bodies,
-        &mut round.work,
-        task.root,
-        left.otherwise,
-    )?;
-    put_end(
-        &mut round.bodies,
-        task.slot,
-        End::Match {
-            subject,
-            rules: Row::from_vec(rules),
-            otherwise,
-        },
-    );
-    Ok(())
+    match_left(alloc, round, task, subject, left)
 }
