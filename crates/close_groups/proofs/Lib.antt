@@ -1,2 +1,2 @@
 mod Noted
-mod Lowering
+pub mod Lowering

@@ -1,2 +1,2 @@
 pub mod Found
-mod Lowering
+pub mod Lowering
