@@ -12,6 +12,7 @@ pub mod makers;
 pub mod members;
 
 pub use group::{Group, lower_group};
+pub use members::themselves;
 
 /// The blocks of a group by number, and what is seen behind it, are the definition's.
 pub fn groups_are_lowered()

@@ -175,7 +175,7 @@ pub(crate) fn news(alloc: Global, keys: &[u32], first: u32) -> Result<Vec<Bound>
 }
 
 /// Variables that are found in themselves.
-pub(crate) fn themselves(alloc: Global, names: &[Variable]) -> Result<Vec<Bound>, NoMemory>
+pub fn themselves(alloc: Global, names: &[Variable]) -> Result<Vec<Bound>, NoMemory>
     ensures { IfOk result (λ v. v.items ≡ themselves names.now) }
 {
     let mut bounds = Vec::new(alloc);
