@@ -1,1 +1,1 @@
-mod Entering
+pub mod Entering
