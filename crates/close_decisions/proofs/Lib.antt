@@ -1,2 +1,3 @@
 pub mod Having
 mod Numbered
+pub mod Below

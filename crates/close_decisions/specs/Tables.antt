@@ -2,8 +2,10 @@
 use Rattle.std.specs.Prelude.{◌≡◌, ℕ, suc, ◌<◌, List, [], ◌∷◌, Option, Some, None, cond, nat_eq, map, length, slice_get}
 use Rattle.std.specs.List.{AllByRecursion}
 use Rattle.cps_ir.specs.Slim.{Layout}
+use Rattle.cps_ir.specs.Program.{Cps, code_at}
+use Rattle.cps_ir.specs.Kept.{IsProgram}
 use Rattle.lifetime_users.specs.Users.{label_in}
-use Rattle.close_laws.specs.Layouts.{Facts}
+use Rattle.close_laws.specs.Layouts.{Facts, facts}
 use Rattle.close_laws.specs.Close.{design_of}
 use Rattle.closure_layouts.specs.declared.layouts.ClosureLayout.{ClosureLayout}
 use Rattle.closure_layouts.specs.Found.{closure_at}
@@ -38,3 +40,8 @@ pub record AreTables (A : Facts) (variables : ℕ) (d : Decisions) : Type 0 wher
 
 abbrev pub TablesHave : Type 0
 TablesHave = (A : Facts) (variables : ℕ) (d : Decisions) → AreTables A variables d → AllByRecursion (λ l. l.name < variables) A.all → Have (design_of A) d
+
+abbrev pub ProgramsHave : Type 0
+ProgramsHave =
+    (q : Cps) → IsProgram q → (d : Decisions) → AreTables (facts q.variables (code_at q.bodies 0)) q.variables d
+    → Have (design_of (facts q.variables (code_at q.bodies 0))) d

@@ -3,7 +3,7 @@
 //! It stands on `closure_layouts`, `cps_survey` and `variable_users`, on `close_steps` for the tables, and on what these stand on. Its main contract: `decisions` answers the tables of a program (`AreTables`), and these have what the definition's design decides (`tables_have`).
 #![tactic(auto)]
 
-ghost use Rattle.close_decisions.specs.Tables.{TablesHave};
+ghost use Rattle.close_decisions.specs.Tables.{ProgramsHave, TablesHave};
 
 pub mod tables;
 pub mod whole;
@@ -14,4 +14,9 @@ pub use whole::decisions;
 /// The tables of a program have what the definition's design decides.
 pub fn tables_have()
     ensures { TablesHave }
+{}
+
+/// Those of a program have what its own design decides.
+pub fn programs_have()
+    ensures { ProgramsHave }
 {}
