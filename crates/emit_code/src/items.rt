@@ -1,7 +1,7 @@
 //! Items by the formats of their instructions.
 
 ghost use Rattle.std.specs.Prelude.{◌≡◌, [], ◌∷◌, ◌++◌, OnOk};
-ghost use Rattle.emit_items.specs.Items.{r_item, i_item, s_item, u_item, moved, value_register, register_in};
+ghost use Rattle.emit_items.specs.Items.{r_item, i_item, s_item, u_item, moved, value_register, is_saved, register_in};
 
 use rv_asm::Item;
 use rv_isa::Op::Addi;
@@ -58,13 +58,24 @@ pub(crate) fn value_register(k: u32) -> u8
     }
 }
 
+/// Whether this one's value has been saved.
+pub(crate) fn is_saved(saved: Option<u32>, k: u32) -> bool
+    ensures { result ≡ is_saved saved k }
+{
+    match saved {
+        Some(j) => j == k,
+        None => false,
+    }
+}
+
 /// The same where the value of one has been saved in x5.
 pub(crate) fn register_in(saved: Option<u32>, k: u32) -> u8
     ensures { result ≡ register_in saved k }
 {
-    match saved {
-        Some(j) if j == k => 5,
-        _ => value_register(k),
+    if is_saved(saved, k) {
+        5
+    } else {
+        value_register(k)
     }
 }
 

@@ -4,9 +4,15 @@
 #![tactic(auto)]
 
 pub mod constants;
+pub mod ends;
 mod items;
+pub mod making;
 mod numbers;
+pub mod primitives;
 pub mod reading;
+pub mod tests;
 
 pub use constants::{load, load_scalar};
+pub use making::{make, make_frame};
+pub use primitives::do_primitive;
 pub use reading::{fetch, get};

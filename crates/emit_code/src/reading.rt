@@ -2,7 +2,7 @@
 
 ghost use Rattle.std.specs.Prelude.{◌≡◌, ◌∷◌, ◌++◌, ◌*◌, ◌+◌, suc, IfOk, OnOk};
 ghost use Rattle.smlc_base.specs.Exceptions.{exn_number};
-ghost use Rattle.emit_items.specs.Reading.{word_loaded, word_stored, behind, before, followed, read_along, held, where_got, static_label, routine_label, fetched, got, home_register, put_away, named, handler_kept, let_in, handler_set};
+ghost use Rattle.emit_items.specs.Reading.{word_loaded, word_stored, behind, before, followed, read_along, held, where_got, static_label, routine_label, fetched, got, home_register, put_away, taken, named, handler_kept, let_in, handler_set};
 
 use crate::constants::{load, load_scalar};
 use crate::items::{FRAME, FREE, HANDLER, i, put_moved, r, register_in, s, value_register};
@@ -66,7 +66,7 @@ fn put_before(items: &mut Vec<Item>, rd: u8, base: u8, bytes: u64) -> Result<(),
 }
 
 /// The bytes from a block's header to a field.
-fn field_bytes(step: u32) -> u64
+pub(crate) fn field_bytes(step: u32) -> u64
     ensures { result ≡ 8 * suc step }
 {
     8 * (step as u64 + 1)
@@ -208,6 +208,14 @@ pub(crate) fn put_away(items: &mut Vec<Item>, home: Home) -> Result<(), NoMemory
         Home::Register(_) => Ok(()),
         Home::Spill(word) => store_word(items, FRAME, 5, field_bytes(word)),
     }
+}
+
+/// The home gets what a primitive has left in x5.
+pub(crate) fn take(items: &mut Vec<Item>, home: Home) -> Result<(), NoMemory>
+    ensures { OnOk result (items.new.items ≡ items.old.items ++ taken home) }
+{
+    put_moved(items, home_register(home), 5)?;
+    put_away(items, home)
 }
 
 /// The home gets the address so many bytes before the next free one.

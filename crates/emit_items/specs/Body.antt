@@ -5,17 +5,11 @@ use Rattle.rv_asm.specs.declared.item.Item.{Item}
 use Rattle.rv_asm.specs.Item.{words}
 use Rattle.placed_ir.specs.Code.{Code, Frame, Make, Name, Let, Prim, Take, Handler, SetHandler, When, Equal, Call, Throw, Halt}
 use Rattle.emit_items.specs.declared.labels.Labels.{Labels}
-use Rattle.emit_items.specs.Items.{nothing}
-use Rattle.emit_items.specs.Reading.{home_register, put_away, named, handler_kept, let_in, handler_set}
+use Rattle.emit_items.specs.Reading.{taken, named, handler_kept, let_in, handler_set}
 use Rattle.emit_items.specs.Making.{group_words, made, framed}
 use Rattle.emit_items.specs.Primitives.{primitive_done}
 use Rattle.emit_items.specs.Tests.{all_tested}
 use Rattle.emit_items.specs.Ends.{call, thrown, compared, halted}
-
--- the register that a primitive's result goes to: that of the home that takes it, or one from which it goes on into the spill record
-abbrev pub result_register : Code → ℕ
-result_register (Take h c) = home_register h
-result_register _ = nothing
 
 module _ (L : Labels) where
   -- where the group that was made last has so many words
@@ -24,8 +18,8 @@ module _ (L : Labels) where
   items group (Make buildings c) = made L buildings ++ items (group_words buildings) c
   items group (Name h n c) = named h (8 * (group - n)) ++ items group c
   items group (Let h s c) = let_in L h s ++ items group c
-  items group (Prim f sources c) = primitive_done L f sources (result_register c) ++ items group c
-  items group (Take h c) = put_away h ++ items group c
+  items group (Prim f sources c) = primitive_done L f sources ++ items group c
+  items group (Take h c) = taken h ++ items group c
   items group (Handler h c) = handler_kept h ++ items group c
   items group (SetHandler s c) = handler_set L s ++ items group c
   items group (When s tests same other) = all_tested L s tests (words (items 0 same)) ++ (items 0 same ++ items 0 other)

@@ -27,7 +27,7 @@ block_length b = extra_words b.shape + length b.fields
 
 abbrev pub group_words : List Building → ℕ
 group_words [] = 0
-group_words (b ∷ buildings) = suc (block_length b) + group_words buildings
+group_words (b ∷ buildings) = (block_length b + 1) + group_words buildings
 
 -- the kind in the lowest 3 bits, then a tag of 29, then the length
 abbrev pub header : (kind tag size : ℕ) → ℕ
@@ -36,6 +36,16 @@ header kind tag size = (kind + 8 * tag + 2 ^ 32 * size) % 2 ^ 64
 -- the tag of spill records
 abbrev pub frame_tag : ℕ
 frame_tag = 2 ^ 29 - 1
+
+-- ---- Words that are put so many words behind x8
+
+abbrev pub header_put : (offset word : ℕ) → List Item
+header_put offset word = loaded 5 word ++ word_stored free 5 (8 * offset)
+
+-- so many words from this one on get what x5 has
+abbrev pub filled : (n offset : ℕ) → List Item
+filled zero offset = []
+filled (suc n) offset = word_stored free 5 (8 * offset) ++ filled n (offset + 1)
 
 module _ (L : Labels) where
   abbrev pub header_of : Shape → ℕ → ℕ
@@ -60,26 +70,23 @@ module _ (L : Labels) where
 
   -- ---- Blocks
 
-  abbrev pub header_put : (offset header : ℕ) → List Item
-  header_put offset h = loaded 5 h ++ word_stored free 5 (8 * offset)
-
   abbrev pub spelling_put : ℕ → Shape → List Item
   spelling_put offset (shape.ExnName x) = item.Address 5 (L.spellings + x) ∷ word_stored free 5 (8 * offset)
   spelling_put offset _ = []
 
   abbrev pub fields_put : ℕ → List Source → List Item
   fields_put offset [] = []
-  fields_put offset (s ∷ sources) = (got L 5 s ++ word_stored free (where_got 5 s) (8 * offset)) ++ fields_put (suc offset) sources
+  fields_put offset (s ∷ sources) = (got L 5 s ++ word_stored free (where_got 5 s) (8 * offset)) ++ fields_put (offset + 1) sources
 
   abbrev pub block_put : ℕ → Building → List Item
   block_put offset b =
-      room offset (suc (block_length b))
+      room offset ((block_length b + 1))
       ++ (header_put offset (header_of b.shape (block_length b))
-      ++ (spelling_put (suc offset) b.shape ++ fields_put (suc offset + extra_words b.shape) b.fields))
+      ++ (spelling_put (offset + 1) b.shape ++ fields_put (offset + 1 + extra_words b.shape) b.fields))
 
   abbrev pub group_put : ℕ → List Building → List Item
   group_put offset [] = []
-  group_put offset (b ∷ buildings) = block_put offset b ++ group_put (offset + suc (block_length b)) buildings
+  group_put offset (b ∷ buildings) = block_put offset b ++ group_put (offset + (block_length b + 1)) buildings
 
   -- the blocks, and then the next free byte is behind them
   abbrev pub made : List Building → List Item
@@ -87,14 +94,9 @@ module _ (L : Labels) where
 
   -- ---- Spill records
 
-  -- so many words from this one on get what x5 has
-  abbrev pub filled : (n offset : ℕ) → List Item
-  filled zero offset = []
-  filled (suc n) offset = word_stored free 5 (8 * offset) ++ filled n (suc offset)
-
   -- a record of so many words, each of which is the scalar 0
   abbrev pub framed : ℕ → List Item
   framed n =
-      room 0 (suc n)
+      room 0 (n + 1)
       ++ (header_put 0 (header 6 frame_tag n)
-      ++ (i_item Addi 5 0 (pos 1) ∷ (filled n 1 ++ (moved frame free ++ behind free free (8 * suc n)))))
+      ++ (i_item Addi 5 0 (pos 1) ∷ (filled n 1 ++ (moved frame free ++ behind free free (8 * (n + 1))))))

@@ -97,6 +97,10 @@ abbrev pub put_away : Home → List Item
 put_away (home.Register k) = []
 put_away (home.Spill i) = word_stored frame 5 (8 * suc i)
 
+-- the home gets what a primitive has left in x5
+abbrev pub taken : Home → List Item
+taken h = moved (home_register h) 5 ++ put_away h
+
 -- the home gets the address so many bytes before the next free one
 abbrev pub named : Home → ℕ → List Item
 named h bytes = before (home_register h) free bytes ++ put_away h

@@ -54,6 +54,15 @@ name_register applied a = cond applied 5 a
 abbrev pub name_got : Bool → ℕ → List Item
 name_got applied a = cond applied (i_item Ld 5 a (pos 8) ∷ []) []
 
+-- from the register along a way
+abbrev pub walked : ℕ → List ℕ → List Item
+walked a [] = []
+walked a (i ∷ steps) = word_loaded 5 a (8 * suc i) ++ followed 5 steps
+
+abbrev pub walk_register : ℕ → List ℕ → ℕ
+walk_register a [] = a
+walk_register a (i ∷ steps) = 5
+
 module _ (L : Labels) where
   -- two strings are equal where their comparison is 3
   abbrev pub text_wanted : (text a after : ℕ) → List Item
@@ -70,15 +79,6 @@ module _ (L : Labels) where
   wanted (want.Exn name applied) a after = name_wanted name applied a after
 
   -- ---- Tests
-
-  -- from the register along a way
-  abbrev pub walked : ℕ → List ℕ → List Item
-  walked a [] = []
-  walked a (i ∷ steps) = word_loaded 5 a (8 * suc i) ++ followed 5 steps
-
-  abbrev pub walk_register : ℕ → List ℕ → ℕ
-  walk_register a [] = a
-  walk_register a (i ∷ steps) = 5
 
   abbrev pub tested : Source → Test → ℕ → List Item
   tested subject t after =
