@@ -1,3 +1,4 @@
 pub mod Loads
 pub mod Loops
 pub mod Rooms
+pub mod Moves

@@ -3,6 +3,7 @@
 //! It stands on `emit_items` for what they are, and on what that stands on. Its main contract: each function puts exactly the items that the definition says behind those that stand there, or wants memory.
 #![tactic(auto)]
 
+pub mod calls;
 pub mod constants;
 pub mod ends;
 mod items;
@@ -10,6 +11,7 @@ pub mod making;
 mod numbers;
 pub mod primitives;
 pub mod reading;
+pub mod steps;
 pub mod tests;
 
 pub use constants::{load, load_scalar};
