@@ -1,5 +1,5 @@
 -- Items that are put piece by piece.
-use Rattle.std.proofs.Common.{◌≡◌, ℕ, suc, ◌+◌, ◌<◌, List, [], ◌∷◌, ◌++◌, length, drop, refl, sym, ap, ◌∙◌, subst, arith}
+use Rattle.std.proofs.Common.{◌≡◌, ℕ, suc, ◌+◌, ◌-◌, ◌<◌, ◌≤◌, List, [], ◌∷◌, ◌++◌, length, drop, refl, sym, ap, ◌∙◌, subst, arith}
 use Rattle.std.specs.Prelude.{slice_index_or}
 use Rattle.std.proofs.Math.Seq.{drop-cons}
 use Rattle.rv_asm.specs.declared.item.Item.{Item}
@@ -36,3 +36,12 @@ module _ {X : Type 0} (part : X → ℕ) (whole : List X → ℕ) (is : (x : X) 
       let rest = drop (i + 1) xs in
       let here : whole (drop i xs) ≡ part x + whole rest = ap whole (front xs i d x lt e) ∙ is x rest in
       omega (arith, g, h, here)
+
+-- pieces that are put in front, from the last on
+pub one_before : (piece : List Item) (n : ℕ) (d : Item) (old new all : List Item) → 0 < n → n ≤ length piece → new ≡ slice_index_or piece (n - 1) d ∷ old → old ≡ drop n piece ++ all → new ≡ drop (n - 1) piece ++ all
+one_before piece n d old new all lt le e h =
+    let last : n - 1 < length piece = omega (arith, lt, le) in
+    let next : suc (n - 1) ≡ n = omega (arith, lt) in
+    e
+    ∙ ap (λ xs. slice_index_or piece (n - 1) d ∷ xs) (h ∙ ap (λ k. drop k piece ++ all) (sym next))
+    ∙ ap (λ xs. xs ++ all) (sym (drop-cons piece (n - 1) d last))

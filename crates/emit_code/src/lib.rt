@@ -13,8 +13,10 @@ pub mod primitives;
 pub mod reading;
 pub mod steps;
 pub mod tests;
+pub mod text;
 
 pub use constants::{load, load_scalar};
 pub use making::{make, make_frame};
 pub use primitives::do_primitive;
 pub use reading::{fetch, get};
+pub use text::Text;

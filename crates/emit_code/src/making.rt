@@ -20,7 +20,7 @@ use rv_isa::Op::{Addi, Bgeu};
 use smlc_base::NoMemory;
 
 /// How many instructions items are.
-pub(crate) fn words(items: &[Item]) -> Result<u32, NoMemory>
+pub fn words(items: &[Item]) -> Result<u32, NoMemory>
     ensures { IfOk result (λ n. n ≡ words items.now) }
 {
     let mut total = 0;

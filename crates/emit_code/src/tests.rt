@@ -162,7 +162,7 @@ fn walk(items: &mut Vec<Item>, a: u8, steps: &[u32]) -> Result<u8, NoMemory>
 }
 
 /// A test of the subject. Where it fails all goes on behind so many instructions more.
-pub(crate) fn test_one(
+pub fn test_one(
     items: &mut Vec<Item>,
     labels: &Labels,
     subject: &Source,
