@@ -8,7 +8,7 @@ pub mod constants;
 pub mod ends;
 mod items;
 pub mod making;
-mod numbers;
+pub mod numbers;
 pub mod primitives;
 pub mod reading;
 pub mod steps;

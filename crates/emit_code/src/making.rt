@@ -69,7 +69,7 @@ fn block_length(building: &Building) -> Result<u32, NoMemory>
 }
 
 /// The words of a group.
-pub(crate) fn group_words(buildings: &[Building]) -> Result<u32, NoMemory>
+pub fn group_words(buildings: &[Building]) -> Result<u32, NoMemory>
     ensures { IfOk result (λ n. n ≡ group_words buildings.now) }
 {
     let mut total = 0;

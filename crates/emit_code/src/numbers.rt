@@ -7,7 +7,7 @@ ghost use Rattle.emit_items.specs.Constants.{lower, upper, upper_immediate, is_s
 use smlc_base::NoMemory;
 
 /// The sum, if it fits.
-pub(crate) fn sum(a: u32, b: u32) -> Result<u32, NoMemory>
+pub fn sum(a: u32, b: u32) -> Result<u32, NoMemory>
     ensures { IfOk result (λ c. c ≡ a + b) }
 {
     match a.checked_add(b) {

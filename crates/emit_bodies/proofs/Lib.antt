@@ -1,0 +1,4 @@
+pub mod Testing
+pub mod Laws
+pub mod Weighing
+pub mod Pushed
