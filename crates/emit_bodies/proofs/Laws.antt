@@ -1,5 +1,5 @@
 -- Tasks are the items of bodies' trees.
-use Rattle.std.proofs.Common.{◌≡◌, ℕ, zero, suc, ◌+◌, ◌-◌, ◌<◌, ◌≤◌, List, [], ◌∷◌, ◌++◌, Option, Some, None, length, take, slice_get, refl, sym, ap, ◌∙◌, arith}
+use Rattle.std.proofs.Common.{◌≡◌, ℕ, zero, suc, ◌-◌, List, [], ◌∷◌, ◌++◌, Option, Some, None, length, take, slice_get, refl, sym, ap, ◌∙◌, arith}
 use Rattle.rv_asm.specs.declared.item.Item.{Item}
 use Rattle.rv_asm.specs.Item.{words}
 use Rattle.placed_ir.specs.declared.home.Source.{Source}
@@ -14,7 +14,6 @@ use Rattle.placed_ir.specs.Program.{code_of_rules, code_of_end, code_of_step, co
 use Rattle.place_bodies.proofs.Unfold.{AreNumbered, code_unfold}
 use Rattle.emit_items.specs.declared.labels.Labels.{Labels}
 use Rattle.emit_items.specs.Tests.{all_tested}
-use Rattle.emit_items.specs.Ends.{halted}
 use Rattle.emit_items.specs.Body.{items}
 use Rattle.emit_code.specs.Steps.{group_after, last_group, step_items, steps_items}
 use Rattle.emit_code.proofs.Loops.{append_assoc, append_none}

@@ -2,3 +2,4 @@ pub mod Testing
 pub mod Laws
 pub mod Weighing
 pub mod Pushed
+pub mod Onward

@@ -1,13 +1,10 @@
 -- Tasks that are pushed.
-use Rattle.std.proofs.Common.{◌≡◌, ℕ, zero, suc, ◌+◌, ◌-◌, ◌<◌, ◌≤◌, length, List, [], ◌∷◌, ◌++◌, Option, Some, None, slice_get, refl, sym, ap, ◌∙◌, arith}
+use Rattle.std.proofs.Common.{◌≡◌, ℕ, zero, suc, ◌-◌, ◌<◌, ◌≤◌, length, List, [], ◌∷◌, ◌++◌, Some, None, slice_get, refl, sym, ap, ◌∙◌, arith}
 use Rattle.std.specs.Prelude.{slice_index_or}
-use Rattle.rv_asm.specs.declared.item.Item.{Item}
-use Rattle.placed_ir.specs.declared.body.Rule.{Rule}
 use Rattle.placed_ir.specs.declared.body.Body.{Body}
 use Rattle.emit_items.specs.declared.labels.Labels.{Labels}
 use Rattle.emit_code.specs.Steps.{steps_items}
 use Rattle.emit_bodies.specs.declared.task.Task.{Task}
-use Rattle.emit_bodies.specs.declared.task.Task.TheVariants.{Whole, Rules, Tests}
 use Rattle.emit_bodies.specs.Layout.{rules_of, rule_tasks, rules_tasks, steps_of}
 
 pub tasks_none : (ts : List Task) → ts ++ [] ≡ ts

@@ -5,10 +5,12 @@
 //! A body's code is made from its end on, with a stack of what is left, so that a rule's tests know how far it is to the next rule.
 #![tactic(auto)]
 
+pub mod body;
 pub mod layout;
 pub mod rules;
-pub mod stack;
+mod stack;
 pub mod task;
 
+pub use body::put_body;
 pub use rules::put_tests;
 pub use task::Task;

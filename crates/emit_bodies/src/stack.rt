@@ -132,7 +132,7 @@ fn whole_body(
     Ok(())
 }
 
-fn do_whole(
+pub(crate) fn do_whole(
     text: &mut Text,
     alloc: Global,
     labels: &Labels,
@@ -211,7 +211,7 @@ fn rules_body(
     }
 }
 
-fn do_rules(
+pub(crate) fn do_rules(
     text: &mut Text,
     alloc: Global,
     labels: &Labels,
@@ -272,7 +272,7 @@ fn tests_in_front(
     }
 }
 
-fn do_tests(
+pub(crate) fn do_tests(
     text: &mut Text,
     alloc: Global,
     labels: &Labels,

@@ -1,5 +1,5 @@
 -- Numbers that are loaded in steps.
-use Rattle.std.proofs.Common.{◌≡◌, ℕ, zero, suc, ◌-◌, ◌++◌, ◌∷◌, cond, false, List, pos, ap, refl, arith, ◌∙◌}
+use Rattle.std.proofs.Common.{◌≡◌, ℕ, zero, suc, ◌-◌, ◌++◌, ◌∷◌, cond, false, pos, ap, refl, arith, ◌∙◌}
 use Rattle.rv_isa.specs.declared.table.Op.TheVariants.{Slli}
 use Rattle.emit_items.specs.Items.{i_item}
 use Rattle.emit_items.specs.Constants.{upper, is_medium, lower_added, medium_loaded, long_loaded}

@@ -1,4 +1,4 @@
-use Rattle.std.proofs.Common.{rules, ◌≡◌, ◌≤◌, ◌++◌, ◌∙◌, length, sym, ap}
+use Rattle.std.proofs.Common.{rules, ◌≤◌, ◌++◌, ◌∙◌, length, sym, ap}
 use Rattle.emit_code.proofs.Loops.{append_none}
 use Rattle.emit_code.proofs.Moves.{done_past}
 use Rattle.emit_code.proofs.calls.do_move.Goals as goal

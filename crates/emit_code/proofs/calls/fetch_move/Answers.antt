@@ -1,4 +1,4 @@
-use Rattle.std.proofs.Common.{◌≡◌, ◌<◌, ◌≤◌, ◌-◌, ◌++◌, ◌∙◌, [], length, sym, ap, arith}
+use Rattle.std.proofs.Common.{◌<◌, ◌≤◌, ◌-◌, ◌++◌, ◌∙◌, length, sym, ap, arith}
 use Rattle.emit_code.proofs.Loops.{append_none}
 use Rattle.emit_code.proofs.Moves.{fetched_past}
 use Rattle.emit_code.proofs.calls.fetch_move.Goals as goal

@@ -1,4 +1,4 @@
-use Rattle.std.proofs.Common.{◌≡◌, refl, ◌+◌, ◌++◌, ◌∙◌, ap}
+use Rattle.std.proofs.Common.{◌≡◌, refl, ◌+◌, ◌∙◌, ap}
 use Rattle.emit_items.specs.Making.{block_length, group_words, block_put, group_put}
 use Rattle.emit_code.proofs.Loops.{one_more, sum_more}
 use Rattle.emit_code.proofs.making.put_group.Goals as goal

@@ -1,4 +1,4 @@
-use Rattle.std.proofs.Common.{rules, arith}
+use Rattle.std.proofs.Common.{rules}
 use Rattle.rv_isa.specs.Word.{signed}
 use Rattle.emit_code.proofs.numbers.to_signed.Goals as goal
 
