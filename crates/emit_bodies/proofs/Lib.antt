@@ -3,3 +3,4 @@ pub mod Laws
 pub mod Weighing
 pub mod Pushed
 pub mod Onward
+pub mod Frames

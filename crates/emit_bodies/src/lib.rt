@@ -6,11 +6,13 @@
 #![tactic(auto)]
 
 pub mod body;
+pub mod function;
 pub mod layout;
 pub mod rules;
 mod stack;
 pub mod task;
 
 pub use body::put_body;
+pub use function::put_function;
 pub use rules::put_tests;
 pub use task::Task;
