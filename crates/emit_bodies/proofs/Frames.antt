@@ -1,5 +1,5 @@
 -- Spill records in front of bodies.
-use Rattle.std.proofs.Common.{◌≡◌, ℕ, zero, suc, ◌<◌, List, ◌++◌, refl, sym, ap, ◌∙◌, arith}
+use Rattle.std.proofs.Common.{◌≡◌, ℕ, zero, suc, ◌<◌, List, ◌++◌, sym, ap, ◌∙◌, arith}
 use Rattle.rv_asm.specs.declared.item.Item.{Item}
 use Rattle.placed_ir.specs.Code.{Code}
 use Rattle.placed_ir.specs.Program.{framed}

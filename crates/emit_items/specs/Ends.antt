@@ -1,5 +1,5 @@
 -- What ends of bodies become.
-use Rattle.std.specs.Prelude.{ℕ, zero, suc, ◌+◌, ◌-◌, ◌==◌, ◌&&◌, ◌||◌, not, cond, Bool, true, false, pos, List, [], ◌∷◌, ◌++◌, Option, Some, None, length, slice_get, remove}
+use Rattle.std.specs.Prelude.{ℕ, zero, suc, ◌+◌, ◌-◌, ◌==◌, ◌&&◌, not, cond, Bool, true, false, pos, List, [], ◌∷◌, ◌++◌, Option, Some, None, length, slice_get, remove}
 use Rattle.rv_isa.specs.declared.table.Op.TheVariants.{Addi, Ld, Jalr}
 use Rattle.rv_asm.specs.declared.item.Item.{Item}
 use Rattle.rv_asm.specs.declared.item.Item.TheVariants as item

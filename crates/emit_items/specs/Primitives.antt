@@ -1,5 +1,5 @@
 -- What primitives become. The result is left in x5. Operands stand in any registers of values, or in x6 and x7, and those of routines in x5, x6 and x7.
-use Rattle.std.specs.Prelude.{ℕ, ◌==◌, ◌||◌, cond, nat_lt, Bool, ℤ, pos, negsuc, neg_ℤ, ◌+ℤ◌, List, [], ◌∷◌, ◌++◌, Option, Some, None}
+use Rattle.std.specs.Prelude.{ℕ, cond, nat_lt, Bool, ℤ, pos, negsuc, neg_ℤ, ◌+ℤ◌, List, [], ◌∷◌, ◌++◌, Option, Some, None}
 use Rattle.smlc_base.specs.declared.primitive.Primitive.{Primitive}
 use Rattle.smlc_base.specs.declared.primitive.Primitive.TheVariants as primitive
 use Rattle.rv_isa.specs.declared.table.Op.{Op}
@@ -11,7 +11,7 @@ use Rattle.rt_prims.specs.declared.line.Routine.TheVariants as routine
 use Rattle.placed_ir.specs.declared.home.Source.{Source}
 use Rattle.placed_ir.specs.declared.home.Source.TheVariants as source
 use Rattle.emit_items.specs.declared.labels.Labels.{Labels}
-use Rattle.emit_items.specs.Items.{r_item, i_item, s_item, moved}
+use Rattle.emit_items.specs.Items.{r_item, i_item, s_item}
 use Rattle.emit_items.specs.Reading.{routine_label, fetched, where_got, got}
 
 -- the empty record
