@@ -25,7 +25,7 @@ use Rattle.close_steps.specs.Lowered.{rule_lowered, end_lowered}
 use Rattle.close_bodies.specs.Bodies.{body_lowered, seen_at_end}
 use Rattle.close_bodies.proofs.Lowering.{bodies_lower}
 use Rattle.close_entries.proofs.Entering.{functions_enter}
-use Rattle.close_rows.specs.Rows.{AreNumbered, AreLowered, AreBound, AllAreLowered, RoutinesAreLowered}
+use Rattle.close_rows.specs.Rows.{AreNumbered, AreLowered, AreBound, AllAreLowered, RoutinesAreLowered, MainIsLowered}
 
 all_among : (P : ℕ → Type 0) (xs : List ℕ) (x : ℕ) → AllByRecursion P xs → IsAmong x xs → P x
 all_among P [] x h m = absurd m
@@ -96,3 +96,8 @@ routines_lower A d have seen given made numbered bound lowered p k e params i h 
     (all_lower (design_of A) d have seen given made numbered bound lowered i h
     ∙ ap (λ (v : Visible). lower (design_of A) (places_in d v) (hand_in v) (opening.code_at given i)) enters)
     ∙ sym (functions_enter A d have p k e params (opening.code_at given i))
+
+pub main_lowers : MainIsLowered
+main_lowers S d have seen given made numbered bound lowered h begins =
+    all_lower S d have seen given made numbered bound lowered 0 h
+    ∙ ap (λ (v : Visible). lower S (places_in d v) (hand_in v) (opening.code_at given 0)) begins

@@ -1,5 +1,5 @@
 -- Bodies by number that are closed one after another.
-use Rattle.std.specs.Prelude.{◌≡◌, ℕ, ◌<◌, List, ◌∷◌, Some, length, slice_get}
+use Rattle.std.specs.Prelude.{◌≡◌, ℕ, ◌<◌, true, List, [], ◌∷◌, Some, length, slice_get}
 use Rattle.std.specs.List.{AllByRecursion}
 use Rattle.simulation.specs.Blocks.{IsAmong}
 use Rattle.smlc_base.specs.declared.point.Point.{Point}
@@ -10,7 +10,7 @@ use Rattle.closure_ir.specs.Program as closing
 use Rattle.closure_ir.specs.declared.body.Body.{Body}
 use Rattle.close_laws.specs.Layouts.{Facts, name_at}
 use Rattle.close_laws.specs.Lower.{Design, lower, lower_function}
-use Rattle.close_laws.specs.Close.{design_of}
+use Rattle.close_laws.specs.Close.{design_of, nowhere, none_at_hand}
 use Rattle.close_steps.specs.declared.decisions.Decision.{Decision}
 use Rattle.close_steps.specs.declared.decisions.Decisions.{Decisions}
 use Rattle.close_steps.specs.Visible.{Have, Visible, decision_of, places_in, hand_in}
@@ -46,3 +46,14 @@ RoutinesAreLowered =
     → (p : Point) (k : Decision) → decision_of (design_of A) (Some p) ≡ Some k
     → (params : List ℕ) (i : ℕ) → i < length given → seen i ≡ entered d (name_at A p) k params
     → closing.routine_of made (record { params = name_at A p ∷ params; body = i }) ≡ lower_function (design_of A) (name_at A p) p params (opening.code_at given i)
+
+-- what is run first begins with nothing
+abbrev pub begun : Visible
+begun = record { is_main = true; variables = []; records = [] }
+
+abbrev pub MainIsLowered : Type 0
+MainIsLowered =
+    (S : Design) (d : Decisions) → Have S d → (seen : ℕ → Visible) (given : List OpenBody) (made : List Body)
+    → AreNumbered given → AreBound S given → AreLowered d seen given made
+    → 0 < length given → seen 0 ≡ begun
+    → closing.code_at made 0 ≡ lower S nowhere none_at_hand (opening.code_at given 0)
