@@ -1,2 +1,4 @@
 pub mod Forms
 pub mod Terms
+pub mod Spots
+pub mod Paid
