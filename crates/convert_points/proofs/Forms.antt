@@ -1,5 +1,5 @@
 -- The points that conversion makes of a term, form by form.
-use Rattle.std.proofs.Common.{◌≡◌, ℕ, zero, suc, ◌+◌, ◌≤◌, Bool, true, false, cond, List, [], ◌∷◌, ◌++◌, Option, Some, None, length, refl, sym, ◌∙◌, subst, arith}
+use Rattle.std.proofs.Common.{◌≡◌, ℕ, zero, suc, ◌+◌, ◌≤◌, Bool, true, false, cond, List, [], ◌∷◌, ◌++◌, Option, Some, None, length, refl, sym, ◌∙◌, arith}
 use Rattle.std.specs.Prelude.{slice_get, nat_eq}
 use Rattle.smlc_base.specs.declared.exception.LibraryExn.TheVariants as exn
 use Rattle.smlc_base.specs.declared.match_tests.Named.{Named}
@@ -22,14 +22,12 @@ use Rattle.simulation.proofs.Lists.{some_eq}
 use Rattle.lambda_ir.specs.Free.{at_term, within_terms, function_of_term, function_at}
 use Rattle.cps_ir.specs.declared.atom.Atom.{Atom}
 use Rattle.cps_ir.specs.declared.atom.Test.{Test}
-use Rattle.cps_ir.specs.declared.atom.Constant.TheVariants as constant
-use Rattle.cps_ir.specs.declared.atom.Shape.TheVariants as shape
 use Rattle.cps_ir.specs.Code.{Code, Pick, Prim, Fix, Call, Throw, Functions, NoFunction, Function, Rules, Otherwise, Rule}
 use Rattle.cps_ir.specs.State.{bind}
-use Rattle.convert_laws.specs.Convert.{Scope, Kon, Known, Text, Conv, Way, variable, known, apply, in_slots, picks, bind_each, bind_names, tests_of, rule_of, match_of, raise_exn, with_fields, fields_taken, primitive, builtin, constructor, part, parts_of, rules_of, match_on, function_of, binds_of, group_function, group_of, handled, steps_of, size_at, size_cases}
+use Rattle.convert_laws.specs.Convert.{Scope, Kon, Known, Text, Conv, Way, variable, apply, picks, bind_each, bind_names, tests_of, rule_of, match_of, raise_exn, with_fields, fields_taken, primitive, builtin, constructor, part, parts_of, rules_of, match_on, function_of, binds_of, group_function, group_of, handled, steps_of, size_at, size_cases}
 use Rattle.convert_laws.specs.Fit.{IsNeedyIn}
 use Rattle.convert_laws.specs.Needs.{live, live_from}
-use Rattle.convert_points.specs.Made.{one, count, count_functions, count_rules, awaited, in_parts, in_cases, in_binds, in_group, in_term, ArePaid}
+use Rattle.convert_points.specs.Made.{one, count, count_functions, count_rules, awaited, in_parts, in_cases, in_binds, in_group, ArePaid}
 
 -- a continuation that is wanted as an atom is one
 abbrev pub Safe : Bool → Kon → Type 0

@@ -1,10 +1,9 @@
 -- The points of a tree's nodes pay for those of the terms that they become.
-use Rattle.std.proofs.Common.{◌≡◌, ℕ, suc, ◌+◌, ◌≤◌, Bool, true, false, List, [], ◌∷◌, Option, Some, None, map, refl, sym, ap, ◌∙◌, subst, arith}
+use Rattle.std.proofs.Common.{◌≡◌, ℕ, ◌+◌, ◌≤◌, true, false, List, [], ◌∷◌, Option, Some, None, map, refl, sym, ap, ◌∙◌, subst, arith}
 use Rattle.std.proofs.lemmas.Option.{slice_get-map}
 use Rattle.std.specs.Prelude.{slice_get}
 use Rattle.std.specs.Option.{option_map}
 use Rattle.smlc_base.specs.declared.point.Point.{Point}
-use Rattle.smlc_base.specs.declared.point.PointKind.TheVariants as kind
 use Rattle.sml_tree.specs.declared.bare.Node.{Node}
 use Rattle.sml_tree.specs.declared.bare.Node.TheVariants as node
 use Rattle.sml_tree.specs.declared.bare.Field.{Field}
@@ -12,14 +11,12 @@ use Rattle.sml_tree.specs.declared.bare.Rule.{Rule}
 use Rattle.sml_tree.specs.declared.bare.Binding.{Binding}
 use Rattle.sml_tree.specs.declared.bare.RecBinding.{RecBinding}
 use Rattle.sml_tree.specs.BareParts.{IsNumbered}
-use Rattle.sml_tree.specs.Points.{point}
 use Rattle.sml_types.specs.declared.tables.TypeName.{TypeName}
 use Rattle.simulation.proofs.Lists.{some_eq}
 use Rattle.lambda_ir.specs.declared.term.Term.{Term}
-use Rattle.lambda_ir.specs.declared.term.Term.TheVariants as term
 use Rattle.match_laws.specs.Compile.{cases_of, bind_of}
 use Rattle.lambda_laws.specs.Make.{part_of, term_of}
-use Rattle.convert_points.specs.Made.{one, awaited, in_parts, in_cases, in_binds, in_group, in_declared, in_term, ArePaid}
+use Rattle.convert_points.specs.Made.{awaited, in_parts, in_cases, in_binds, in_group, in_declared, in_term, ArePaid}
 use Rattle.convert_points.proofs.Spots.{of_fields, of_rules, of_rights, of_functions, of_node, of_own, paid_at, declared_at, at_here, declared_here}
 
 module _ (p : Point) (ts : List TypeName) (nodes : List Node) (paid declares : ℕ → ℕ) where

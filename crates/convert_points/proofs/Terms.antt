@@ -1,26 +1,22 @@
 -- Conversion by a decision that fits makes each point so often as is paid for it.
-use Rattle.std.proofs.Common.{◌≡◌, ℕ, zero, suc, ◌+◌, ◌≤◌, Bool, true, false, List, [], ◌∷◌, ◌++◌, Option, Some, None, length, refl, sym, ◌∙◌, arith}
+use Rattle.std.proofs.Common.{◌≡◌, ℕ, zero, suc, ◌+◌, ◌≤◌, Bool, true, false, List, [], ◌∷◌, Option, Some, None, length, refl, sym, ◌∙◌, arith}
 use Rattle.std.specs.Prelude.{slice_get}
 use Rattle.smlc_base.specs.declared.exception.LibraryExn.TheVariants as exn
 use Rattle.smlc_base.specs.declared.point.Point.{Point}
-use Rattle.smlc_base.specs.declared.point.PointKind.TheVariants as kind
-use Rattle.sml_tree.specs.Points.{point}
-use Rattle.sml_tree.specs.declared.bare.RecBinding.{RecBinding}
 use Rattle.lambda_ir.specs.declared.term.Case.{Case}
 use Rattle.lambda_ir.specs.declared.term.Part.{Part}
 use Rattle.lambda_ir.specs.declared.term.Term.{Term}
 use Rattle.lambda_ir.specs.declared.term.Term.TheVariants as term
 use Rattle.lambda_ir.specs.Free.{at_term}
-use Rattle.cps_ir.specs.declared.atom.Atom.{Atom}
 use Rattle.cps_ir.specs.declared.atom.Constant.TheVariants as constant
-use Rattle.cps_ir.specs.Code.{Code, Throw, Halt}
+use Rattle.cps_ir.specs.Code.{Throw, Halt}
 use Rattle.cps_ir.specs.State.{bind}
 use Rattle.convert_laws.specs.declared.head.Head.{Head}
 use Rattle.convert_laws.specs.declared.head.Head.TheVariants as head
-use Rattle.convert_laws.specs.Convert.{Scope, Kon, Known, Text, Conv, variable, known, nowhere, con_atom, builtin_atom, apply, builtin, constructor, size_at, parts_of, tuple_of, match_on, raise_exn, applied, scope_group, group_of, group_with, declared, conv_term, no_conv, conv_within, convert}
+use Rattle.convert_laws.specs.Convert.{Scope, Kon, Known, Text, Conv, variable, known, nowhere, con_atom, builtin_atom, builtin, constructor, size_at, tuple_of, match_on, raise_exn, applied, scope_group, declared, conv_term, no_conv, conv_within, convert}
 use Rattle.convert_laws.specs.Fit.{IsNeedy, IsFit}
 use Rattle.convert_laws.specs.Needs.{head_at, calls}
-use Rattle.convert_points.specs.Made.{one, count, count_functions, awaited, in_parts, in_cases, in_binds, in_group, in_declared, in_term, ArePaid}
+use Rattle.convert_points.specs.Made.{count, awaited, in_parts, in_cases, in_declared, in_term, ArePaid}
 use Rattle.convert_points.specs.Law.{ConversionIsPaid}
 use Rattle.convert_points.proofs.Forms.{no_more, KonMakes, Safe, safe_in, applied as apply_makes, builtin_makes, constructor_makes, part_makes, parts_make, match_makes, fn_makes, call_makes, argument_makes, binds_make, handle_makes, group_makes}
 

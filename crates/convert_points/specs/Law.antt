@@ -33,8 +33,8 @@ pub record HasPoints (q : Tree) : Type 0 where
   pub stand : (l : Layout) → IsAmong l (layouts q.code) → is_some (find_site q.sites l.point) ≡ true
 
 -- so it is with what a bare tree becomes
-abbrev pub PointsStandOnce : Type 0
-PointsStandOnce = (ts : List TypeName) (p : Bare) → IsBare p → HasPoints (cps_of (lambda_of ts p))
+abbrev pub ConvertedPointsStandOnce : Type 0
+ConvertedPointsStandOnce = (ts : List TypeName) (p : Bare) → IsBare p → HasPoints (cps_of (lambda_of ts p))
 
 -- which is whole
 abbrev pub ConvertedIsWhole : Type 0
