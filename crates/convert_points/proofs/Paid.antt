@@ -1,4 +1,4 @@
--- The points of a tree's nodes pay for those of the terms that they become.
+-- The points of a tree's nodes pay for those of the terms that the nodes become.
 use Rattle.std.proofs.Common.{◌≡◌, ℕ, ◌+◌, ◌≤◌, true, false, List, [], ◌∷◌, Option, Some, None, map, refl, sym, ap, ◌∙◌, subst, arith}
 use Rattle.std.proofs.lemmas.Option.{slice_get-map}
 use Rattle.std.specs.Prelude.{slice_get}

@@ -1,4 +1,4 @@
--- Conversion by a decision that fits makes each point so often as is paid for it.
+-- Conversion by a decision that fits makes each point no more often than is paid for it.
 use Rattle.std.proofs.Common.{◌≡◌, ℕ, zero, suc, ◌+◌, ◌≤◌, Bool, true, false, List, [], ◌∷◌, Option, Some, None, length, refl, sym, ◌∙◌, arith}
 use Rattle.std.specs.Prelude.{slice_get}
 use Rattle.smlc_base.specs.declared.exception.LibraryExn.TheVariants as exn

@@ -21,7 +21,7 @@ use Rattle.convert_laws.specs.Program.{cps_of}
 use Rattle.contract_round.specs.Law.{IsWhole}
 use Rattle.convert_points.specs.Made.{count, ArePaid}
 
--- Where the decision fits, conversion makes a point so often as is paid for it.
+-- Where the decision fits, conversion makes a point no more often than is paid for it.
 abbrev pub ConversionIsPaid : Type 0
 ConversionIsPaid =
     (terms : List Term) (needy own : ℕ → Bool) → IsFit terms needy own → (p : Point) (paid : ℕ → ℕ) → ArePaid p paid terms → count p (convert own terms) ≤ paid 0
