@@ -60,7 +60,7 @@ module _ (part : ℕ → Code) where
   end_in end.Halt = tt
 
   -- what is behind a binding stands in the whole
-  behind_in : (b : Bind) (c : Code) (l : Layout) → IsAmong l (layouts c) → IsAmong l (layouts (code_of_bind part b c))
+  pub behind_in : (b : Bind) (c : Code) (l : Layout) → IsAmong l (layouts c) → IsAmong l (layouts (code_of_bind part b c))
   behind_in (bind.Make x shape atoms) c l m = m
   behind_in (bind.Pick x i a) c l m = m
   behind_in (bind.Prim x f atoms) c l m = m
@@ -191,7 +191,7 @@ module _ (q : Cps) (kept : IsProgram q) where
       let all = all_there (length q.bodies) (0 ∷ parts) (suc j) (none, kept.apart) (omega (arith, h, g), all_with (λ c. (0 < c) × (c < length q.bodies)) (λ c. c < length q.bodies) (λ c r. r.1) parts range) n g in
       ⊎_elim (λ (e : suc j ≡ 0). absurd (omega (arith, e))) (λ (i : IsAmong (suc j) parts). i) (has_among (0 ∷ parts) (suc j) all)
 
-  stands : (n j : ℕ) → j < n → j < length q.bodies → (l : Layout) → IsAmong l (layouts (code_at q.bodies j)) → IsAmong l (layouts (code_at q.bodies 0))
+  pub stands : (n j : ℕ) → j < n → j < length q.bodies → (l : Layout) → IsAmong l (layouts (code_at q.bodies j)) → IsAmong l (layouts (code_at q.bodies 0))
   stands zero j h g l m = absurd (omega (arith, h))
   stands (suc n) zero h g l m = m
   stands (suc n) (suc j) h g l m =
@@ -205,7 +205,7 @@ module _ (q : Cps) (kept : IsProgram q) where
   all_known : (l : Layout) → IsAmong l (layouts (code_at q.bodies 0)) → (design_of (facts q.variables (code_at q.bodies 0))).known l.name ≡ Some l.point
   all_known l m = ap point_of (named (layouts (code_at q.bodies 0)) (layouts_named_once (code_at q.bodies 0) kept.once) l m)
 
-some_within : (bodies : List Body) (i : ℕ) (b : Body) → slice_get bodies i ≡ Some b → i < length bodies
+pub some_within : (bodies : List Body) (i : ℕ) (b : Body) → slice_get bodies i ≡ Some b → i < length bodies
 some_within [] i b e = absurd (cc)
 some_within (c ∷ bodies) zero b e = omega arith
 some_within (c ∷ bodies) (suc i) b e = let h = some_within bodies i b e in omega (arith, h)
