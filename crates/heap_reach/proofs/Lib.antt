@@ -1,0 +1,4 @@
+mod Sets
+mod Adding
+mod Walking
+mod Counting
