@@ -6,12 +6,12 @@ _smlc() {
         return
     fi
     case $before in
-        --steps) COMPREPLY=() ;;
+        --arena|--steps) COMPREPLY=() ;;
         -o) mapfile -t COMPREPLY < <(compgen -f -- "$word") ;;
         *)
             case ${COMP_WORDS[1]} in
-                run) mapfile -t COMPREPLY < <(compgen -f -X '!*.sml' -- "$word"; compgen -d -- "$word"; compgen -W "--steps" -- "$word") ;;
-                compile) mapfile -t COMPREPLY < <(compgen -f -X '!*.sml' -- "$word"; compgen -d -- "$word"; compgen -W "-o" -- "$word") ;;
+                run) mapfile -t COMPREPLY < <(compgen -f -X '!*.sml' -- "$word"; compgen -d -- "$word"; compgen -W "--arena --steps" -- "$word") ;;
+                compile) mapfile -t COMPREPLY < <(compgen -f -X '!*.sml' -- "$word"; compgen -d -- "$word"; compgen -W "-o --arena" -- "$word") ;;
                 types) mapfile -t COMPREPLY < <(compgen -f -X '!*.sml' -- "$word"; compgen -d -- "$word") ;;
                 exec) mapfile -t COMPREPLY < <(compgen -f -- "$word"; compgen -W "--steps" -- "$word") ;;
             esac ;;

@@ -25,8 +25,8 @@ no_job words a asks (Some j) h = tt
 
 -- a job that is asked for has at most 256 files
 few_files : (name : List ℕ) (g : Given) (a : Asked) (job : Job) → IsFor name g a → Allows a job → length (files_of job) ≤ 256
-few_files name g (Run files None given) (RunFiles names steps) h allows = let few = h.1.1 in omega (arith, ap length allows.0, few)
-few_files name g (Compile files out None) (CompileFiles names target) h allows = let few = h.1.1 in omega (arith, ap length allows.0, few)
+few_files name g (Run files words given) (RunFiles names arena steps) h allows = let few = h.1.1 in omega (arith, ap length allows.0, few)
+few_files name g (Compile files out words) (CompileFiles names target arena) h allows = let few = h.1.1 in omega (arith, ap length allows.0, few)
 few_files name g (Exec elf given) (ExecFile n steps) h allows = omega arith
 few_files name g (Types files) (TypesFiles names) h allows = let few = h.1.1 in omega (arith, ap length allows, few)
 few_files name g (Gen n k) (GenText number size) h allows = omega arith

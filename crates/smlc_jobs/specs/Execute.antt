@@ -6,14 +6,14 @@ use Rattle.elf_static.specs.declared.error.ElfKind.{ElfKind}
 use Rattle.elf_static.specs.declared.error.ElfError.{ElfError}
 use Rattle.elf_static.specs.declared.error.ElfError.TheVariants as elf
 use Rattle.elf_static.specs.Reading.{meaning_of}
-use Rattle.rv_machine.specs.Run.{Runs, Exited, Trapped}
+use Rattle.rv_machine.specs.Run.{Runs, Trapped}
 use Rattle.smlc_jobs.specs.declared.outcome.Outcome.{Outcome}
 use Rattle.smlc_jobs.specs.declared.outcome.Outcome.TheVariants as outcome
-use Rattle.smlc_jobs.specs.Runs.{Tally, IsSame, Intake, TakesNothing, IsRun, IsMidway}
+use Rattle.smlc_jobs.specs.Runs.{Tally, IsSame, Intake, TakesNothing, IsRun, IsExit, IsMidway}
 
 -- an image was run
 pub data RanImage (image : Image) (steps : ℕ) (before after : Tally) (input : Intake) (out err : List ℕ) : Outcome → Type 0 where
-  exited : (status : ℕ) → IsRun image input steps (Exited status) out err → IsSame before after → RanImage image steps before after input out err (outcome.Exited status)
+  exited : (status x11 x12 : ℕ) → IsExit image input steps status x11 x12 out err → IsSame before after → RanImage image steps before after input out err (outcome.Exited status x11 x12)
   went_on : IsRun image input steps Runs out err → IsSame before after → RanImage image steps before after input out err (outcome.Steps steps)
   trapped : (pc word : ℕ) → IsRun image input steps (Trapped pc word) out err → IsSame before after → RanImage image steps before after input out err (outcome.Trapped pc word)
   had_no_memory : out ≡ [] → err ≡ [] → TakesNothing input → IsSame before after → RanImage image steps before after input out err outcome.NoMemory

@@ -3,7 +3,8 @@ use Rattle.std.specs.Prelude.{ℕ, ◌≡◌, ◌≤◌, ◌<◌, List, [], Opti
 use Rattle.smlc_edge.specs.Edge.{Gains}
 use Rattle.elf_static.specs.declared.image.Image.{Image}
 use Rattle.rv_machine.specs.Load.{loaded}
-use Rattle.rv_machine.specs.Run.{World, Cut, Mend, Runs, Knows, behaviour}
+use Rattle.rv_machine.specs.State.{reg}
+use Rattle.rv_machine.specs.Run.{World, Cut, Mend, Runs, Exited, Knows, behaviour}
 
 -- ---- counts of faults
 
@@ -53,6 +54,12 @@ pub record IsRun (image : Image) (input : Intake) (steps : ℕ) (mend : Mend) (o
   pub wrote : (behaviour count (begun image input.before) cuts).world.out ≡ out
   pub wrote_err : (behaviour count (begun image input.before) cuts).world.err ≡ err
   pub left : Knows (behaviour count (begun image input.before) cuts).world.input input.left
+
+-- the program exited, with these numbers in x11 and x12
+pub record IsExit (image : Image) (input : Intake) (steps status x11 x12 : ℕ) (out err : List ℕ) : Type 0 where
+  pub run : IsRun image input steps (Exited status) out err
+  pub in_x11 : reg (behaviour run.count (begun image input.before) run.cuts).world.state 11 ≡ x11
+  pub in_x12 : reg (behaviour run.count (begun image input.before) run.cuts).world.state 12 ≡ x12
 
 -- fewer instructions were done, it goes on, and has written this, and the input has left what it didn't take
 pub record IsMidway (image : Image) (input : Intake) (steps : ℕ) (out err : List ℕ) : Type 0 where

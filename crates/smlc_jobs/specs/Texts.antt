@@ -57,6 +57,10 @@ steps_line n = codes "steps " ++ decimal n ++ newline
 abbrev pub exit_line : ℕ → List ℕ
 exit_line status = codes "exit " ++ decimal status ++ newline
 
+-- the words of the arena that were used, those of the record that found no room, and those of the whole arena
+abbrev pub full_line : ℕ → ℕ → ℕ → List ℕ
+full_line used next arena = codes "arena used " ++ decimal used ++ (codes " next " ++ decimal next ++ (codes " of " ++ decimal arena ++ newline))
+
 -- the check that failed, and its offset in the file
 abbrev pub elf_line : ElfKind → ℕ → List ℕ
 elf_line kind at = codes "not elf " ++ word_of_kind kind ++ (codes " at " ++ decimal at ++ newline)

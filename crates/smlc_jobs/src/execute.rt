@@ -63,7 +63,11 @@ fn run_image<I: Source, O: Sink, E: Sink>(
     };
     let before = out.faults();
     match machine.run(steps, input, out, err) {
-        End::Exit(status) => Outcome::Exited(status),
+        End::Exit(status) => Outcome::Exited {
+            status,
+            x11: machine.reg(11),
+            x12: machine.reg(12),
+        },
         End::Trap { pc, word } => Outcome::Trapped { pc, word },
         End::Steps => Outcome::Steps(steps),
         End::ReadFault => Outcome::InputFault,

@@ -9,21 +9,26 @@ use smlc_base::NoMemory;
 use smlc_words::{Command, command};
 use std::alloc::Global;
 
+/// The words of the arena where nothing is said.
+const ARENA: u64 = 8_388_608;
+
 /// How many instructions are done at the most where nothing is said.
 const STEPS: u64 = 1_000_000_000;
 
 /// A job: the names of files are words of the command line.
 #[derive(Drop)]
 pub enum Job<'a> {
-    /// Compile files and run what was made, for so many instructions at the most.
+    /// Compile files and run what was made, with an arena of so many words, for so many instructions at the most.
     Run {
         files: Vec<&'a str>,
+        arena: u64,
         steps: u64,
     },
-    /// Compile files, and save what was made under a name.
+    /// Compile files, with an arena of so many words, and save what was made under a name.
     Compile {
         files: Vec<&'a str>,
         target: &'a str,
+        arena: u64,
     },
     /// Run an ELF file, for so many instructions at the most.
     Exec {
@@ -61,17 +66,18 @@ fn allowed<'a>(command: Command<'a>) -> Option<Job<'a>>
     match command {
         Command::Run {
             files,
-            arena: None,
+            arena,
             steps,
         } => Some(Job::Run {
             files,
+            arena: arena.unwrap_or(ARENA),
             steps: steps.unwrap_or(STEPS),
         }),
-        Command::Compile {
+        Command::Compile { files, out, arena } => Some(Job::Compile {
             files,
-            out,
-            arena: None,
-        } => Some(Job::Compile { files, target: out }),
+            target: out,
+            arena: arena.unwrap_or(ARENA),
+        }),
         Command::Exec { elf, steps } => Some(Job::Exec {
             file: elf,
             steps: steps.unwrap_or(STEPS),

@@ -5,9 +5,9 @@ ghost use Rattle.std.specs.Fmt.{decimal};
 ghost use Rattle.std.specs.Int.{w32, w64, to_be_bytes};
 ghost use Rattle.hex.specs.Hex.{encode_lower};
 ghost use Rattle.elf_static.specs.Kinds.{word_of as word_of_kind};
-ghost use Rattle.smlc_jobs.specs.Texts.{name_at, place_text, banned_text, refusal_line, refused_line, store_line, newline, elf_line, trap_line, steps_line, exit_line};
+ghost use Rattle.smlc_jobs.specs.Texts.{name_at, place_text, banned_text, refusal_line, refused_line, store_line, newline, elf_line, trap_line, steps_line, exit_line, full_line};
 ghost use Rattle.smlc_jobs.specs.Write.{Whole, Said};
-ghost use Rattle.smlc_jobs.specs.Outcome.{line_of, status_of};
+ghost use Rattle.smlc_jobs.specs.Outcome.{line_of, status_of, exit_outcome, ended_outcome};
 ghost use Rattle.smlc_edge.specs.Edge.{Counts};
 ghost use Rattle.std.specs.Prelude.{IsOk};
 
@@ -23,8 +23,12 @@ use std::alloc::Global;
 pub enum Outcome {
     /// All was done.
     Done,
-    /// The program exited with this status.
-    Exited(u8),
+    /// The program exited with this status, and with these numbers in x11 and x12.
+    Exited { status: u8, x11: u64, x12: u64 },
+    /// The program ended by an exception that nothing handles, and has told it itself.
+    Uncaught,
+    /// The program's arena was full: the words that were used, those of the record that found no room, and those of the arena.
+    ArenaFull { used: u64, next: u64, arena: u64 },
     /// The program was refused, with the line that says so.
     Refused(Vec<u8>),
     /// So many instructions were done, and the program goes on.
@@ -63,6 +67,32 @@ pub fn name_at<'a>(names: &[&'a str], at: usize) -> &'a str
     }
 }
 
+/// What the outcome of a run is where the program was compiled with an arena of so many words.
+pub fn ended(outcome: Outcome, arena: u64) -> Outcome
+    ensures { result ≡ ended_outcome arena outcome }
+{
+    match outcome {
+        Outcome::Exited { status, x11, x12 } => exit(arena, status, x11, x12),
+        other => other,
+    }
+}
+
+// What an exit says.
+fn exit(arena: u64, status: u8, x11: u64, x12: u64) -> Outcome
+    ensures { result ≡ exit_outcome arena status x11 x12 }
+{
+    match status {
+        0 => Outcome::Done,
+        1 => Outcome::Uncaught,
+        3 => Outcome::ArenaFull {
+            used: x11,
+            next: x12,
+            arena,
+        },
+        _ => Outcome::Exited { status, x11, x12 },
+    }
+}
+
 /// Writes the line of what a job on these files came to, and answers its status, or 5 where the error stream failed. It takes no memory.
 pub fn report<E: Sink>(err: &mut E, files: &[&str], target: &str, outcome: &Outcome) -> u8
     ensures said { Said (line_of (map (λ file. file.now) files.now) target.now outcome.now) (status_of outcome.now) result (E.faults err.old) (E.faults err.new) (E.taken err.old) (E.taken err.new) }
@@ -70,7 +100,9 @@ pub fn report<E: Sink>(err: &mut E, files: &[&str], target: &str, outcome: &Outc
 {
     match outcome {
         Outcome::Done => 0,
-        Outcome::Exited(status) => say_number(err, b"exit ", *status as u64, 0),
+        Outcome::Exited { status, .. } => say_number(err, b"exit ", *status as u64, 0),
+        Outcome::Uncaught => 1,
+        Outcome::ArenaFull { used, next, arena } => say_full(err, *used, *next, *arena),
         Outcome::Refused(line) => say(err, line, 2),
         Outcome::Steps(steps) => say_number(err, b"steps ", *steps, 4),
         Outcome::Trapped { pc, word } => say_trap(err, *pc, *word),
@@ -92,6 +124,37 @@ fn say_number<E: Sink>(err: &mut E, words: &[u8], number: u64, status: u8) -> u8
 {
     let mut buffer = Buffer::new();
     say_line(err, words, buffer.format(number).as_bytes(), status)
+}
+
+// Words and a number, unless the sink fails.
+fn write_number<E: Sink>(err: &mut E, words: &[u8], number: u64) -> Result<(), Failed>
+    ensures whole { Whole (words.now ++ decimal number) result (E.taken err.old) (E.taken err.new) }
+    ensures cause { Counts (E.faults err.old) (E.faults err.new) result }
+    ensures surely { E.sure err.old → IsOk result × E.sure err.new }
+{
+    let mut buffer = Buffer::new();
+    write_both(err, words, buffer.format(number).as_bytes())
+}
+
+fn say_full<E: Sink>(err: &mut E, used: u64, next: u64, arena: u64) -> u8
+    ensures said { Said (full_line used next arena) 3 result (E.faults err.old) (E.faults err.new) (E.taken err.old) (E.taken err.new) }
+    ensures surely { E.sure err.old → result ≡ 3 }
+{
+    match write_number(err, b"arena used ", used) {
+        Ok(()) => say_room(err, next, arena),
+        Err(_) => 5,
+    }
+}
+
+// The line of a full arena, behind the words that were used.
+fn say_room<E: Sink>(err: &mut E, next: u64, arena: u64) -> u8
+    ensures said { Said (codes " next " ++ decimal next ++ (codes " of " ++ decimal arena ++ newline)) 3 result (E.faults err.old) (E.faults err.new) (E.taken err.old) (E.taken err.new) }
+    ensures surely { E.sure err.old → result ≡ 3 }
+{
+    match write_number(err, b" next ", next) {
+        Ok(()) => say_number(err, b" of ", arena, 3),
+        Err(_) => 5,
+    }
 }
 
 fn say_not_elf<E: Sink>(err: &mut E, kind: ElfKind, at: u64) -> u8

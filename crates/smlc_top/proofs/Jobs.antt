@@ -12,7 +12,7 @@ use Rattle.rv_machine.specs.Run.{Mend, Runs, Exited, Trapped}
 use Rattle.smlc_jobs.specs.declared.outcome.Outcome.{Outcome}
 use Rattle.smlc_jobs.specs.declared.outcome.Outcome.TheVariants as outcome
 use Rattle.smlc_jobs.specs.Job.{RunFiles, CompileFiles, ExecFile, TypesFiles, GenText}
-use Rattle.smlc_jobs.specs.Outcome.{ended_outcome}
+use Rattle.smlc_jobs.specs.Outcome.{exit_outcome, ended_outcome}
 use Rattle.smlc_jobs.specs.Texts.{refused_line}
 use Rattle.generator.specs.Text.{program_text}
 use Rattle.smlc_top.specs.Front.{IsUntyped}
@@ -33,45 +33,45 @@ run_concludes text image input steps m w e compiles r = prints_concludes image t
 midway_concludes : (text : List ℕ) (image : Image) (input : Intake) (steps : ℕ) (w e : List ℕ) → Compiles text image → IsMidway image input steps w e → Concludes Runs text w e
 midway_concludes text image input steps w e compiles r = prints_concludes image text (64 * (1 + length text)) input.before Runs r.count r.cuts w e compiles.prints r.goes_on r.wrote r.wrote_err
 
-module _ (names : List (List ℕ)) (told kept : Option Files) (steps : ℕ) (files : List (List ℕ)) (text : List ℕ) (image : Image) (t t' : Tally) (input : Intake) (w e : List ℕ)
+module _ (names : List (List ℕ)) (told kept : Option Files) (arena steps : ℕ) (files : List (List ℕ)) (text : List ℕ) (image : Image) (t t' : Tally) (input : Intake) (w e : List ℕ)
     (held : AreHeld told names files) (keeps : KeepsFiles told kept) (means : Means files text) (compiles : Compiles text image) where
   abbrev Done : Outcome → Type 0
-  Done o = Performed (RunFiles names steps) told kept t t' input w e o
+  Done o = Performed (RunFiles names arena steps) told kept t t' input w e o
 
-  midway : IsMidway image input steps w e → Midway told input w e (RunFiles names steps)
-  midway m = let c = midway_concludes text image input steps w e compiles m in running names steps files text image held means compiles m c.0 c.1
+  midway : IsMidway image input steps w e → Midway told input w e (RunFiles names arena steps)
+  midway m = let c = midway_concludes text image input steps w e compiles m in running names arena steps files text image held means compiles m c.0 c.1
 
-  run_image : (o : Outcome) → RanImage image steps t t' input w e o → Done (ended_outcome o)
-  run_image _ (exited status r same) =
-      let c = run_concludes text image input steps (Exited status) w e compiles r in
-      let r' : IsRun image input steps (Exited 0) w e = subst (λ (n : ℕ). IsRun image input steps (Exited n) w e) c.0 r in
+  run_image : (o : Outcome) → RanImage image steps t t' input w e o → Done (ended_outcome arena o)
+  run_image _ (exited status x11 x12 x same) =
+      let c = run_concludes text image input steps (Exited status) w e compiles x.run in
+      let r' : IsRun image input steps (Exited 0) w e = subst (λ (n : ℕ). IsRun image input steps (Exited n) w e) c.0 x.run in
       let r'' : IsRun image input steps (Exited 0) w [] = subst (λ (x : List ℕ). IsRun image input steps (Exited 0) w x) c.2 r' in
-      fine outcome.Done (ran names steps files image held (subst (λ (x : List ℕ). Means files x) (sym c.1) means) (subst (λ (x : List ℕ). Compiles x image) (sym c.1) compiles) r'' c.2 keeps) same
+      subst (λ (n : ℕ). Done (exit_outcome arena n x11 x12)) (sym c.0) (fine outcome.Done (ran names arena steps files image held (subst (λ (x : List ℕ). Means files x) (sym c.1) means) (subst (λ (x : List ℕ). Compiles x image) (sym c.1) compiles) r'' c.2 keeps) same)
   run_image _ (went_on r same) =
       let c = run_concludes text image input steps Runs w e compiles r in
       let r' : IsRun image input steps Runs w [] = subst (λ (x : List ℕ). IsRun image input steps Runs w x) c.1 r in
-      fine (outcome.Steps steps) (stopped names steps files text image held means compiles r' c.0 c.1 keeps) same
+      fine (outcome.Steps steps) (stopped names arena steps files text image held means compiles r' c.0 c.1 keeps) same
   run_image _ (trapped pc word r same) = absurd (run_concludes text image input steps (Trapped pc word) w e compiles r)
   run_image _ (had_no_memory p q n same) = want p q keeps n same
   run_image _ (input_fault f l m) = read_failed f l (midway m) keeps
-  run_image _ (out_fault f l m) = write_failed f l (in_run (RunFiles names steps) (midway m)) keeps
+  run_image _ (out_fault f l m) = write_failed f l (in_run (RunFiles names arena steps) (midway m)) keeps
   run_image _ (err_fault f m) = error_failed f (midway m) keeps
 
-pub run_executed : (names : List (List ℕ)) (told kept : Option Files) (steps : ℕ) (files : List (List ℕ)) (text bytes : List ℕ) (t t' : Tally) (input : Intake) (w e : List ℕ) (o : Outcome) → AreHeld told names files → KeepsFiles told kept →
-    Means files text → IsElfOf text bytes → Executed bytes steps t t' input w e o → Performed (RunFiles names steps) told kept t t' input w e (ended_outcome o)
-run_executed names told kept steps files text bytes t t' input w e _ held keeps means made (of_image image o read h) =
+pub run_executed : (names : List (List ℕ)) (told kept : Option Files) (arena steps : ℕ) (files : List (List ℕ)) (text bytes : List ℕ) (t t' : Tally) (input : Intake) (w e : List ℕ) (o : Outcome) → AreHeld told names files → KeepsFiles told kept →
+    Means files text → IsElfOf text bytes → Executed bytes steps t t' input w e o → Performed (RunFiles names arena steps) told kept t t' input w e (ended_outcome arena o)
+run_executed names told kept arena steps files text bytes t t' input w e _ held keeps means made (of_image image o read h) =
     let a : meaning_of bytes ≡ Ok made.image = made.read in
     let same : made.image ≡ image = cc in
-    run_image names told kept steps files text image t t' input w e held keeps means (subst (λ (i : Image). Compiles text i) same made.compiles) o h
-run_executed names told kept steps files text bytes t t' input w e _ held keeps means made (not_read kind at bad p q n same) = let a : meaning_of bytes ≡ Ok made.image = made.read in absurd (cc)
-run_executed names told kept steps files text bytes t t' input w e _ held keeps means made (read_memory p q n same) = want p q keeps n same
+    run_image names told kept arena steps files text image t t' input w e held keeps means (subst (λ (i : Image). Compiles text i) same made.compiles) o h
+run_executed names told kept arena steps files text bytes t t' input w e _ held keeps means made (not_read kind at bad p q n same) = let a : meaning_of bytes ≡ Ok made.image = made.read in absurd (cc)
+run_executed names told kept arena steps files text bytes t t' input w e _ held keeps means made (read_memory p q n same) = want p q keeps n same
 
 -- ---- `exec`
 
 module _ (name : List ℕ) (told files : Option Files) (steps : ℕ) (file : List ℕ) (image : Image) (t t' : Tally) (input : Intake) (w e : List ℕ)
     (held : IsHeld told name file) (keeps : KeepsFiles told files) (read : meaning_of file ≡ Ok image) where
   exec_image : (o : Outcome) → RanImage image steps t t' input w e o → Performed (ExecFile name steps) told files t t' input w e o
-  exec_image _ (exited status r same) = fine (outcome.Exited status) (exec_exited name steps file image status held read r keeps) same
+  exec_image _ (exited status x11 x12 x same) = fine (outcome.Exited status x11 x12) (exec_exited name steps file image status held read x.run keeps) same
   exec_image _ (went_on r same) = fine (outcome.Steps steps) (exec_stopped name steps file image held read r keeps) same
   exec_image _ (trapped pc word r same) = fine (outcome.Trapped pc word) (exec_trapped name steps file image pc word held read r keeps) same
   exec_image _ (had_no_memory p q n same) = want p q keeps n same
@@ -96,15 +96,15 @@ changes_only told loaded saved target bytes e keeps saves = λ files t. let s = 
 
 -- ---- refusals
 
-pub run_said : (names : List (List ℕ)) (told kept : Option Files) (steps : ℕ) (files : List (List ℕ)) (line : Vec ℕ Global) (t t' : Tally) (input : Intake) → AreHeld told names files → KeepsFiles told kept →
-    (refusal : Refusal) × IsRefused files refusal × (line.items ≡ refused_line names refusal) → TakesNothing input → IsSame t t' → Performed (RunFiles names steps) told kept t t' input [] [] (outcome.Refused line)
-run_said names told kept steps files line t t' input held keeps h nothing same =
-    fine (outcome.Refused line) (subst (λ (x : List ℕ). Comes told kept input [] [] (RunFiles names steps) x 2) (sym h.2) (run_refused names steps files h.0 held h.1 refl refl keeps nothing)) same
+pub run_said : (names : List (List ℕ)) (told kept : Option Files) (arena steps : ℕ) (files : List (List ℕ)) (line : Vec ℕ Global) (t t' : Tally) (input : Intake) → AreHeld told names files → KeepsFiles told kept →
+    (refusal : Refusal) × IsRefused files refusal × (line.items ≡ refused_line names refusal) → TakesNothing input → IsSame t t' → Performed (RunFiles names arena steps) told kept t t' input [] [] (outcome.Refused line)
+run_said names told kept arena steps files line t t' input held keeps h nothing same =
+    fine (outcome.Refused line) (subst (λ (x : List ℕ). Comes told kept input [] [] (RunFiles names arena steps) x 2) (sym h.2) (run_refused names arena steps files h.0 held h.1 refl refl keeps nothing)) same
 
-pub compile_said : (names : List (List ℕ)) (target : List ℕ) (told kept : Option Files) (files : List (List ℕ)) (line : Vec ℕ Global) (t t' : Tally) (input : Intake) → AreHeld told names files → KeepsFiles told kept →
-    (refusal : Refusal) × IsRefused files refusal × (line.items ≡ refused_line names refusal) → TakesNothing input → IsSame t t' → Performed (CompileFiles names target) told kept t t' input [] [] (outcome.Refused line)
-compile_said names target told kept files line t t' input held keeps h nothing same =
-    fine (outcome.Refused line) (subst (λ (x : List ℕ). Comes told kept input [] [] (CompileFiles names target) x 2) (sym h.2) (compile_refused names files target h.0 held h.1 refl refl keeps nothing)) same
+pub compile_said : (names : List (List ℕ)) (target : List ℕ) (arena : ℕ) (told kept : Option Files) (files : List (List ℕ)) (line : Vec ℕ Global) (t t' : Tally) (input : Intake) → AreHeld told names files → KeepsFiles told kept →
+    (refusal : Refusal) × IsRefused files refusal × (line.items ≡ refused_line names refusal) → TakesNothing input → IsSame t t' → Performed (CompileFiles names target arena) told kept t t' input [] [] (outcome.Refused line)
+compile_said names target arena told kept files line t t' input held keeps h nothing same =
+    fine (outcome.Refused line) (subst (λ (x : List ℕ). Comes told kept input [] [] (CompileFiles names target arena) x 2) (sym h.2) (compile_refused names files target arena h.0 held h.1 refl refl keeps nothing)) same
 
 pub types_said : (names : List (List ℕ)) (told kept : Option Files) (files : List (List ℕ)) (line : Vec ℕ Global) (t t' : Tally) (input : Intake) → AreHeld told names files → KeepsFiles told kept →
     (refusal : Refusal) × IsUntyped files refusal × (line.items ≡ refused_line names refusal) → TakesNothing input → IsSame t t' → Performed (TypesFiles names) told kept t t' input [] [] (outcome.Refused line)

@@ -53,16 +53,16 @@ pub record Compiles (text : List ℕ) (image : Image) : Type 0 where
 -- What comes of a job where nothing fails: with what the store told and tells, what the input told and tells, and what the run wrote on out and err,
 -- the line that err gets then, and the status.
 pub data Comes (told now : Option Files) (input : Intake) (out merr : List ℕ) : Job → List ℕ → ℕ → Type 0 where
-  ran : (names : List (List ℕ)) (steps : ℕ) (files : List (List ℕ)) (image : Image) → AreHeld told names files → Means files out → Compiles out image → IsRun image input steps (Exited 0) out [] →
-      merr ≡ [] → KeepsFiles told now → Comes told now input out merr (RunFiles names steps) [] 0
-  stopped : (names : List (List ℕ)) (steps : ℕ) (files : List (List ℕ)) (text : List ℕ) (image : Image) → AreHeld told names files → Means files text → Compiles text image → IsRun image input steps Runs out [] →
-      IsPrefix out text → merr ≡ [] → KeepsFiles told now → Comes told now input out merr (RunFiles names steps) (steps_line steps) 4
-  run_refused : (names : List (List ℕ)) (steps : ℕ) (files : List (List ℕ)) (refusal : Refusal) → AreHeld told names files → IsRefused files refusal →
-      out ≡ [] → merr ≡ [] → KeepsFiles told now → TakesNothing input → Comes told now input out merr (RunFiles names steps) (refused_line names refusal) 2
-  compiled : (names files : List (List ℕ)) (target text bytes : List ℕ) (image : Image) → AreHeld told names files → Means files text → Compiles text image → meaning_of bytes ≡ Ok image →
-      HasSaved told now target bytes → out ≡ [] → merr ≡ [] → TakesNothing input → Comes told now input out merr (CompileFiles names target) [] 0
-  compile_refused : (names files : List (List ℕ)) (target : List ℕ) (refusal : Refusal) → AreHeld told names files → IsRefused files refusal →
-      out ≡ [] → merr ≡ [] → KeepsFiles told now → TakesNothing input → Comes told now input out merr (CompileFiles names target) (refused_line names refusal) 2
+  ran : (names : List (List ℕ)) (arena steps : ℕ) (files : List (List ℕ)) (image : Image) → AreHeld told names files → Means files out → Compiles out image → IsRun image input steps (Exited 0) out [] →
+      merr ≡ [] → KeepsFiles told now → Comes told now input out merr (RunFiles names arena steps) [] 0
+  stopped : (names : List (List ℕ)) (arena steps : ℕ) (files : List (List ℕ)) (text : List ℕ) (image : Image) → AreHeld told names files → Means files text → Compiles text image → IsRun image input steps Runs out [] →
+      IsPrefix out text → merr ≡ [] → KeepsFiles told now → Comes told now input out merr (RunFiles names arena steps) (steps_line steps) 4
+  run_refused : (names : List (List ℕ)) (arena steps : ℕ) (files : List (List ℕ)) (refusal : Refusal) → AreHeld told names files → IsRefused files refusal →
+      out ≡ [] → merr ≡ [] → KeepsFiles told now → TakesNothing input → Comes told now input out merr (RunFiles names arena steps) (refused_line names refusal) 2
+  compiled : (names files : List (List ℕ)) (target text bytes : List ℕ) (arena : ℕ) (image : Image) → AreHeld told names files → Means files text → Compiles text image → meaning_of bytes ≡ Ok image →
+      HasSaved told now target bytes → out ≡ [] → merr ≡ [] → TakesNothing input → Comes told now input out merr (CompileFiles names target arena) [] 0
+  compile_refused : (names files : List (List ℕ)) (target : List ℕ) (arena : ℕ) (refusal : Refusal) → AreHeld told names files → IsRefused files refusal →
+      out ≡ [] → merr ≡ [] → KeepsFiles told now → TakesNothing input → Comes told now input out merr (CompileFiles names target arena) (refused_line names refusal) 2
   exec_exited : (name : List ℕ) (steps : ℕ) (file : List ℕ) (image : Image) (status : ℕ) → IsHeld told name file → meaning_of file ≡ Ok image → IsRun image input steps (Exited status) out merr →
       KeepsFiles told now → Comes told now input out merr (ExecFile name steps) (exit_line status) 0
   exec_stopped : (name : List ℕ) (steps : ℕ) (file : List ℕ) (image : Image) → IsHeld told name file → meaning_of file ≡ Ok image → IsRun image input steps Runs out merr →
@@ -79,8 +79,8 @@ pub data Comes (told now : Option Files) (input : Intake) (out merr : List ℕ) 
 
 -- a run that was going on when a fault came, with what it had written
 pub data Midway (told : Option Files) (input : Intake) (out merr : List ℕ) : Job → Type 0 where
-  running : (names : List (List ℕ)) (steps : ℕ) (files : List (List ℕ)) (text : List ℕ) (image : Image) → AreHeld told names files → Means files text → Compiles text image → IsMidway image input steps out merr →
-      IsPrefix out text → merr ≡ [] → Midway told input out merr (RunFiles names steps)
+  running : (names : List (List ℕ)) (arena steps : ℕ) (files : List (List ℕ)) (text : List ℕ) (image : Image) → AreHeld told names files → Means files text → Compiles text image → IsMidway image input steps out merr →
+      IsPrefix out text → merr ≡ [] → Midway told input out merr (RunFiles names arena steps)
   executing : (name : List ℕ) (steps : ℕ) (file : List ℕ) (image : Image) → IsHeld told name file → meaning_of file ≡ Ok image → IsMidway image input steps out merr → Midway told input out merr (ExecFile name steps)
 
 -- what was going on when a write on out failed: a run, or the text of types or of a large program, of which a prefix was written
@@ -109,7 +109,7 @@ pub data Answers (words : List (List ℕ)) (told now : Option Files) (before aft
       IsSame before after → err ≡ line → Answers words told now before after input out err status
   not_loaded : (job : Job) (i : ℕ) → IsAsked words job → LoadsUpTo told (files_of job) i → Rose before.store after.store → out ≡ [] → KeepsFiles told now → TakesNothing input → Names before after (store_line (name_at (files_of job) i)) err →
       Answers words told now before after input out err 5
-  not_saved : (names files : List (List ℕ)) (target text : List ℕ) (image : Image) → IsAsked words (CompileFiles names target) → AreHeld told names files → Means files text → Compiles text image →
+  not_saved : (names files : List (List ℕ)) (target text : List ℕ) (arena : ℕ) (image : Image) → IsAsked words (CompileFiles names target arena) → AreHeld told names files → Means files text → Compiles text image →
       Rose before.store after.store → out ≡ [] → ChangesOnly told now target → TakesNothing input → Names before after (store_line target) err →
       Answers words told now before after input out err 5
   input_failed : (job : Job) (merr front : List ℕ) → IsAsked words job → Rose before.input after.input → Midway told input out merr job → KeepsFiles told now →
@@ -129,7 +129,7 @@ pub data Performed (job : Job) (told now : Option Files) (before after : Tally) 
   fine : (o : Outcome) → Comes told now input out merr job (line_of (files_of job) (target_of job) o) (status_of o) → IsSame before after → Performed job told now before after input out merr o
   want : out ≡ [] → merr ≡ [] → KeepsFiles told now → TakesNothing input → IsSame before after → Performed job told now before after input out merr outcome.NoMemory
   load_failed : (i : ℕ) → LoadsUpTo told (files_of job) i → Fails before.store after.store → out ≡ [] → merr ≡ [] → KeepsFiles told now → TakesNothing input → before.err ≤ after.err → Performed job told now before after input out merr (outcome.LoadFault i)
-  save_failed : (names files : List (List ℕ)) (target text : List ℕ) (image : Image) → job ≡ CompileFiles names target → AreHeld told names files → Means files text → Compiles text image →
+  save_failed : (names files : List (List ℕ)) (target text : List ℕ) (arena : ℕ) (image : Image) → job ≡ CompileFiles names target arena → AreHeld told names files → Means files text → Compiles text image →
       Fails before.store after.store → out ≡ [] → merr ≡ [] → ChangesOnly told now target → TakesNothing input → before.err ≤ after.err →
       Performed job told now before after input out merr outcome.SaveFault
   read_failed : Fails before.input after.input → before.err ≤ after.err → Midway told input out merr job → KeepsFiles told now → Performed job told now before after input out merr outcome.InputFault

@@ -3,7 +3,7 @@
 ghost use Rattle.std.specs.Prelude.{◌≡◌, ◌≢◌, ◌≤◌, List, [], ℕ, Option, All, length, map, string_bytes, false};
 ghost use Rattle.smlc_jobs.specs.Job.{RunFiles, CompileFiles, ExecFile, TypesFiles, GenText, IsAsked, Serves, files_of, job_of};
 ghost use Rattle.smlc_jobs.specs.Job.{Job as Wanted};
-ghost use Rattle.smlc_jobs.specs.Outcome.{is_fault, ended_outcome};
+ghost use Rattle.smlc_jobs.specs.Outcome.{is_fault};
 ghost use Rattle.smlc_top.specs.Clause.{Answers, Performed};
 ghost use Rattle.smlc_edge.specs.Edge.{Files};
 ghost use Rattle.smlc_jobs.specs.Runs.{tally, intake, Came};
@@ -15,7 +15,7 @@ use smlc_edge::{Sink, Source, Store, StoreError};
 use smlc_jobs::execute::execute;
 use smlc_jobs::job::{Job, find_job};
 use smlc_jobs::load::{Loaded, load_all};
-use smlc_jobs::outcome::{MEMORY, Outcome, USAGE, report};
+use smlc_jobs::outcome::{MEMORY, Outcome, USAGE, ended, report};
 use smlc_jobs::write::{say, write_whole};
 use std::alloc::Global;
 
@@ -68,14 +68,22 @@ fn do_job<F: Store, I: Source, O: Sink, E: Sink>(
         I.sure input.old → O.sure out.old → E.sure err.old → result ≢ 5 }
 {
     match job {
-        Job::Run { files, steps } => {
+        Job::Run {
+            files,
+            arena,
+            steps,
+        } => {
             let names = files.as_slice();
-            let outcome = run(alloc, names, steps, store, input, out, err);
+            let outcome = run(alloc, names, arena, steps, store, input, out, err);
             report(err, names, "", &outcome)
         }
-        Job::Compile { files, target } => {
+        Job::Compile {
+            files,
+            target,
+            arena,
+        } => {
             let names = files.as_slice();
-            let outcome = compile(alloc, names, target, store);
+            let outcome = compile(alloc, names, target, arena, store);
             report(err, names, target, &outcome)
         }
         Job::Exec { file, steps } => {
@@ -98,6 +106,7 @@ fn do_job<F: Store, I: Source, O: Sink, E: Sink>(
 fn run<F: Store, I: Source, O: Sink, E: Sink>(
     alloc: Global,
     names: &[&str],
+    arena: u64,
     steps: u64,
     store: &mut F,
     input: &mut I,
@@ -106,14 +115,14 @@ fn run<F: Store, I: Source, O: Sink, E: Sink>(
 ) -> Outcome
     requires { length names.now ≤ 256 }
     ensures performed { Came (O.taken out.old) (O.taken out.new) (E.taken err.old) (E.taken err.new) (λ wrote wrote_err.
-        Performed (RunFiles (map (λ name. name.now) names.now) steps) (F.files store.old) (F.files store.new)
+        Performed (RunFiles (map (λ name. name.now) names.now) arena steps) (F.files store.old) (F.files store.new)
         (tally (F.faults store.old) (I.faults input.old) (O.faults out.old) (E.faults err.old))
         (tally (F.faults store.new) (I.faults input.new) (O.faults out.new) (E.faults err.new)) (intake (I.left input.old) (I.left input.new)) wrote wrote_err result) }
     ensures sure { All (F.surely_loads store.old) (map (λ name. name.now) names.now) → I.sure input.old → O.sure out.old → E.sure err.old → (is_fault result ≡ false) × E.sure err.new }
 {
     match load_all(alloc, names, store) {
         Loaded::Files(files) => match build(alloc, names, &files) {
-            Built::Elf(bytes) => ended(execute(alloc, &bytes, steps, input, out, err)),
+            Built::Elf(bytes) => { ended(execute(alloc, &bytes, steps, input, out, err), arena) }
             Built::Refused(line) => Outcome::Refused(line),
             Built::NoMemory => Outcome::NoMemory,
         },
@@ -122,20 +131,16 @@ fn run<F: Store, I: Source, O: Sink, E: Sink>(
     }
 }
 
-// The outcome of `run`, which doesn't tell the status of an exit.
-fn ended(outcome: Outcome) -> Outcome
-    ensures { result ≡ ended_outcome outcome }
-{
-    match outcome {
-        Outcome::Exited(_) => Outcome::Done,
-        other => other,
-    }
-}
-
 // Compiles files and saves what was made.
-fn compile<F: Store>(alloc: Global, names: &[&str], target: &str, store: &mut F) -> Outcome
+fn compile<F: Store>(
+    alloc: Global,
+    names: &[&str],
+    target: &str,
+    arena: u64,
+    store: &mut F,
+) -> Outcome
     requires { length names.now ≤ 256 }
-    ensures performed { (i o e : ℕ) (input : Option (List ℕ)) → Performed (CompileFiles (map (λ name. name.now) names.now) target.now) (F.files store.old) (F.files store.new)
+    ensures performed { (i o e : ℕ) (input : Option (List ℕ)) → Performed (CompileFiles (map (λ name. name.now) names.now) target.now arena) (F.files store.old) (F.files store.new)
         (tally (F.faults store.old) i o e) (tally (F.faults store.new) i o e) (intake input input) [] [] result }
     ensures sure { All (F.surely_loads store.old) (map (λ name. name.now) names.now) → F.surely_saves store.old target.now 8589934592 → is_fault result ≡ false }
 {

@@ -17,7 +17,7 @@ pub returns-in-Ok-clause-performed : goal.returns-in-Ok-clause-performed
 returns-in-Ok-clause-performed g c = λ i o e input.
     let l = c.in-Files.ensures.loaded in
     let b = rw c.deref.ensures.value at c.in-Elf.ensures in
-    fine outcome.Done (compiled (map (λ x. x.now) c.args.names.now) (map (λ x. x.items) c.in-Files.files.items) c.args.target.now b.0 c.in-Elf.bytes.items b.2.image (λ files t. l.0 files t) b.1 b.2.compiles b.2.read
+    fine outcome.Done (compiled (map (λ x. x.now) c.args.names.now) (map (λ x. x.items) c.in-Files.files.items) c.args.target.now b.0 c.in-Elf.bytes.items c.args.arena b.2.image (λ files t. l.0 files t) b.1 b.2.compiles b.2.read
     (has_saved (g.F.Store.files c.args.store.now) (g.F.Store.files c.load_all.new.store) (g.F.Store.files c.save.new.self) c.args.target.now c.in-Elf.bytes.items tt (λ files t. l.2 files t) (λ files t. rw c.deref-in-Elf.ensures.value at (c.in-Ok.ensures.told files t))) refl refl (λ bytes h. h))
     (record { store = c.in-Ok.ensures.cause ∙ l.3; input = refl; out = refl; err = refl })
 
@@ -26,13 +26,13 @@ returns-in-Elf-clause-performed g c = λ i o e input.
     let l = c.in-Files.ensures.loaded in
     let f : Fails (g.F.Store.faults c.args.store.now) (g.F.Store.faults c.save.new.self) = subst (λ (n : ℕ). Fails n (g.F.Store.faults c.save.new.self)) l.3 c.in-Err.ensures.cause in
     let b = rw c.deref.ensures.value at c.in-Elf.ensures in
-    save_failed (map (λ x. x.now) c.args.names.now) (map (λ x. x.items) c.in-Files.files.items) c.args.target.now b.0 b.2.image refl (λ files t. l.0 files t) b.1 b.2.compiles f refl refl
+    save_failed (map (λ x. x.now) c.args.names.now) (map (λ x. x.items) c.in-Files.files.items) c.args.target.now b.0 c.args.arena b.2.image refl (λ files t. l.0 files t) b.1 b.2.compiles f refl refl
     (changes_only (g.F.Store.files c.args.store.now) (g.F.Store.files c.load_all.new.store) (g.F.Store.files c.save.new.self) c.args.target.now _ c.in-Err.field-0 (λ files t. l.2 files t) (λ files t. c.in-Err.ensures.told files t)) (λ bytes h. h) (omega arith)
 
 pub returns-in-Refused-clause-performed : goal.returns-in-Refused-clause-performed
 returns-in-Refused-clause-performed g c = λ i o e input.
     let l = c.in-Files.ensures.loaded in
-    compile_said (map (λ x. x.now) c.args.names.now) c.args.target.now (g.F.Store.files c.args.store.now) (g.F.Store.files c.load_all.new.store) (map (λ x. x.items) c.in-Files.files.items) c.in-Refused.line _ _ (intake input input)
+    compile_said (map (λ x. x.now) c.args.names.now) c.args.target.now c.args.arena (g.F.Store.files c.args.store.now) (g.F.Store.files c.load_all.new.store) (map (λ x. x.items) c.in-Files.files.items) c.in-Refused.line _ _ (intake input input)
     (λ files t. l.0 files t) (λ files t. l.2 files t) (rw c.deref.ensures.value at c.in-Refused.ensures) (λ bytes h. h) (record { store = l.3; input = refl; out = refl; err = refl })
 
 pub returns-in-Files-clause-performed : goal.returns-in-Files-clause-performed

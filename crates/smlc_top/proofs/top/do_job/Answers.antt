@@ -9,9 +9,9 @@ use Rattle.smlc_top.proofs.top.do_job.Goals as goal
 
 pub returns-in-Run-clause-answer : goal.returns-in-Run-clause-answer
 returns-in-Run-clause-answer g c = λ words asked.
-    reported words (g.F.Store.files c.args.store.now) (g.F.Store.files c.run-outcome.new.store) (RunFiles (map (λ x. x.now) c.as_slice-names.result.now) c.in-Run.steps) (tally (g.F.Store.faults c.args.store.now) (g.I.Source.faults c.args.input.now) (g.O.Sink.faults c.args.out.now) (g.E.Sink.faults c.args.err.now))
+    reported words (g.F.Store.files c.args.store.now) (g.F.Store.files c.run-outcome.new.store) (RunFiles (map (λ x. x.now) c.as_slice-names.result.now) c.in-Run.arena c.in-Run.steps) (tally (g.F.Store.faults c.args.store.now) (g.I.Source.faults c.args.input.now) (g.O.Sink.faults c.args.out.now) (g.E.Sink.faults c.args.err.now))
     (tally (g.F.Store.faults c.run-outcome.new.store) (g.I.Source.faults c.run-outcome.new.input) (g.O.Sink.faults c.run-outcome.new.out) (g.E.Sink.faults c.run-outcome.new.err)) (intake (g.I.Source.left c.args.input.now) (g.I.Source.left c.run-outcome.new.input)) (g.E.Sink.faults c.report.new.err) c.report.result
-    (g.O.Sink.taken c.args.out.now) (g.O.Sink.taken c.run-outcome.new.out) (g.E.Sink.taken c.args.err.now) (g.E.Sink.taken c.run-outcome.new.err) (g.E.Sink.taken c.report.new.err) c.run-outcome.result (subst (λ (xs : List (Bor (List ℕ))). IsAsked words (RunFiles (map (λ x. x.now) xs) c.in-Run.steps)) (sym c.as_slice-names.ensures.value) (rw c.in-Run.is at asked))
+    (g.O.Sink.taken c.args.out.now) (g.O.Sink.taken c.run-outcome.new.out) (g.E.Sink.taken c.args.err.now) (g.E.Sink.taken c.run-outcome.new.err) (g.E.Sink.taken c.report.new.err) c.run-outcome.result (subst (λ (xs : List (Bor (List ℕ))). IsAsked words (RunFiles (map (λ x. x.now) xs) c.in-Run.arena c.in-Run.steps)) (sym c.as_slice-names.ensures.value) (rw c.in-Run.is at asked))
     c.run-outcome.ensures.performed c.report.ensures.said
 
 pub returns-in-Exec-clause-answer : goal.returns-in-Exec-clause-answer
@@ -26,9 +26,9 @@ returns-in-Compile-clause-answer g c = λ words asked.
     let i = g.I.Source.faults c.args.input.now in
     let o = g.O.Sink.faults c.args.out.now in
     let e = g.E.Sink.faults c.args.err.now in
-    reported words (g.F.Store.files c.args.store.now) (g.F.Store.files c.compile-outcome.new.store) (CompileFiles (map (λ x. x.now) c.as_slice-names-in-Compile.result.now) c.in-Compile.target.now) (tally (g.F.Store.faults c.args.store.now) (g.I.Source.faults c.args.input.now) (g.O.Sink.faults c.args.out.now) (g.E.Sink.faults c.args.err.now))
+    reported words (g.F.Store.files c.args.store.now) (g.F.Store.files c.compile-outcome.new.store) (CompileFiles (map (λ x. x.now) c.as_slice-names-in-Compile.result.now) c.in-Compile.target.now c.in-Compile.arena) (tally (g.F.Store.faults c.args.store.now) (g.I.Source.faults c.args.input.now) (g.O.Sink.faults c.args.out.now) (g.E.Sink.faults c.args.err.now))
     (tally (g.F.Store.faults c.compile-outcome.new.store) i o e) (intake (g.I.Source.left c.args.input.now) (g.I.Source.left c.args.input.now)) (g.E.Sink.faults c.report-in-Compile.new.err) c.report-in-Compile.result
-    (g.O.Sink.taken c.args.out.now) (g.O.Sink.taken c.args.out.now) (g.E.Sink.taken c.args.err.now) (g.E.Sink.taken c.args.err.now) (g.E.Sink.taken c.report-in-Compile.new.err) c.compile-outcome.result (subst (λ (xs : List (Bor (List ℕ))). IsAsked words (CompileFiles (map (λ x. x.now) xs) c.in-Compile.target.now)) (sym c.as_slice-names-in-Compile.ensures.value) (rw c.in-Compile.is at asked))
+    (g.O.Sink.taken c.args.out.now) (g.O.Sink.taken c.args.out.now) (g.E.Sink.taken c.args.err.now) (g.E.Sink.taken c.args.err.now) (g.E.Sink.taken c.report-in-Compile.new.err) c.compile-outcome.result (subst (λ (xs : List (Bor (List ℕ))). IsAsked words (CompileFiles (map (λ x. x.now) xs) c.in-Compile.target.now c.in-Compile.arena)) (sym c.as_slice-names-in-Compile.ensures.value) (rw c.in-Compile.is at asked))
     (came_none (g.O.Sink.taken c.args.out.now) (g.E.Sink.taken c.args.err.now) _ (c.compile-outcome.ensures.performed i o e (g.I.Source.left c.args.input.now))) c.report-in-Compile.ensures.said
 
 pub returns-in-Types-clause-answer : goal.returns-in-Types-clause-answer
