@@ -46,6 +46,15 @@ impl Text {
         self.words
     }
 
+    /// The items in the order of the text.
+    pub fn into_items(self) -> Vec<Item>
+        ensures { result.items ≡ self }
+    {
+        let mut items = self.backwards;
+        items.reverse();
+        items
+    }
+
     /// Puts an item in front.
     fn put_item(&mut self, item: Item) -> Result<(), NoMemory>
         ensures { OnOk result (self.new ≡ item ∷ self.old) }
