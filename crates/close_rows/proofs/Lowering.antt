@@ -42,7 +42,7 @@ rules_parts at [] otherwise = refl
 rules_parts at (r ∷ rules) otherwise = ap (λ js. r.body ∷ js) (rules_parts at rules otherwise)
 
 -- an end has the same bodies
-parts_same : (d : Decisions) (at : Places) (e : Open) → kept.end_parts (end_lowered d at e) ≡ end_parts e
+pub parts_same : (d : Decisions) (at : Places) (e : Open) → kept.end_parts (end_lowered d at e) ≡ end_parts e
 parts_same d at (given_end.Equal a b truth k) = refl
 parts_same d at (given_end.Call a atoms) = refl
 parts_same d at (given_end.Match a rules otherwise) = rules_parts at rules otherwise
@@ -53,7 +53,7 @@ module _ (d : Decisions) (seen : ℕ → Visible) (given : List OpenBody) (made 
   ends_numbered : (i : ℕ) (b : OpenBody) → slice_get given i ≡ Some b → AllByRecursion (λ c. (i < c) × (c < length given)) (end_parts b.end)
   ends_numbered i b e = all_back (λ c. (i < c) × (c < length given)) (flat_map bind_parts b.binds) (end_parts b.end) (numbered i b e)
 
-  made_numbered : closed.AreNumbered made
+  pub made_numbered : closed.AreNumbered made
   made_numbered i c e = by (slice_get given i) refl
     where
       by : (o : Option OpenBody) → slice_get given i ≡ o → AllByRecursion (λ j. (i < j) × (j < length made)) (kept.body_parts c)
