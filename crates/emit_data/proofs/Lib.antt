@@ -1,0 +1,3 @@
+mod Loops
+mod Bytes
+pub mod Bindings

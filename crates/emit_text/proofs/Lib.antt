@@ -1,0 +1,5 @@
+pub mod Bounds
+pub mod Pieces
+pub mod Routines
+pub mod Started
+pub mod Wholes

@@ -1,0 +1,4 @@
+pub mod Lengths
+pub mod Images
+mod Filled
+mod Table
