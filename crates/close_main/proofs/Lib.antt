@@ -1,0 +1,5 @@
+pub mod Sums
+pub mod Unfolded
+pub mod Filling
+pub mod Labels
+pub mod Main
