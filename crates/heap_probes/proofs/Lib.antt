@@ -1,0 +1,4 @@
+mod Told
+mod Folds
+mod Parts
+mod Greatest

@@ -1,0 +1,4 @@
+pub mod Probe
+pub mod Lines
+pub mod Rules
+pub mod Laws
