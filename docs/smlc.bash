@@ -2,7 +2,7 @@
 _smlc() {
     local word=${COMP_WORDS[COMP_CWORD]} before=${COMP_WORDS[COMP_CWORD - 1]}
     if ((COMP_CWORD == 1)); then
-        mapfile -t COMPREPLY < <(compgen -W "run compile types gen exec" -- "$word")
+        mapfile -t COMPREPLY < <(compgen -W "run compile types plan gen exec" -- "$word")
         return
     fi
     case $before in
@@ -12,7 +12,7 @@ _smlc() {
             case ${COMP_WORDS[1]} in
                 run) mapfile -t COMPREPLY < <(compgen -f -X '!*.sml' -- "$word"; compgen -d -- "$word"; compgen -W "--arena --steps" -- "$word") ;;
                 compile) mapfile -t COMPREPLY < <(compgen -f -X '!*.sml' -- "$word"; compgen -d -- "$word"; compgen -W "-o --arena" -- "$word") ;;
-                types) mapfile -t COMPREPLY < <(compgen -f -X '!*.sml' -- "$word"; compgen -d -- "$word") ;;
+                types|plan) mapfile -t COMPREPLY < <(compgen -f -X '!*.sml' -- "$word"; compgen -d -- "$word") ;;
                 exec) mapfile -t COMPREPLY < <(compgen -f -- "$word"; compgen -W "--steps" -- "$word") ;;
             esac ;;
     esac

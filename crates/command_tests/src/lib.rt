@@ -4,6 +4,12 @@
 #![tactic(auto)]
 
 #[cfg(test)]
+mod calls;
+#[cfg(test)]
 mod commands;
+#[cfg(test)]
+mod hostile;
+#[cfg(test)]
+mod texts;
 #[cfg(test)]
 mod words;

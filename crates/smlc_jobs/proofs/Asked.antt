@@ -1,11 +1,12 @@
 -- what the words ask of all that is there
-use Rattle.std.proofs.Common.{ℕ, ◌≤◌, List, [], ◌∷◌, length, Option, Some, ap, subst, arith}
-use Rattle.std.specs.Prelude.{IfSome, IfNone, None}
-use Rattle.smlc_words.specs.Given.{Given}
-use Rattle.smlc_words.specs.Asks.{Asked, Asks, IsFor, Run, Compile, Exec, Types, Gen}
-use Rattle.smlc_words.proofs.Once.{asks_once}
+use Rattle.std.proofs.Common.{ℕ, List, length, Option, Some, ap, sym, subst, arith}
+use Rattle.std.specs.Prelude.{IfSome, IfNone, None, unwrap_or}
+use Rattle.smlc_words.specs.Given.{IsArena}
+use Rattle.smlc_words.specs.Asks.{Asked, Asks, Run, Compile, Exec, Types, Plan, Gen}
+use Rattle.smlc_words.specs.Laws.{IsInRange as WordsInRange}
+use Rattle.smlc_words.proofs.Once.{asks_once, asks_in_range}
 use Rattle.smlc_jobs.specs.declared.job.Job.{Job as Held}
-use Rattle.smlc_jobs.specs.Job.{Job, job_of, RunFiles, CompileFiles, ExecFile, TypesFiles, GenText, IsAsked, Allows, files_of}
+use Rattle.smlc_jobs.specs.Job.{Job, job_of, RunFiles, CompileFiles, ExecFile, TypesFiles, PlanFiles, GenText, IsAsked, IsInRange, Allows, default_arena}
 
 -- a command that is no job of these, so that the words ask for none
 pub none_asked : (words : List (List ℕ)) (a : Asked) → Asks words a → ((job : Job) → Allows a job → ⊥) → (job : Job) → IsAsked words job → ⊥
@@ -23,19 +24,23 @@ pub no_job : (words : List (List ℕ)) (a : Asked) → Asks words a → (o : Opt
 no_job words a asks None h = none_asked words a asks h
 no_job words a asks (Some j) h = tt
 
--- a job that is asked for has at most 256 files
-few_files : (name : List ℕ) (g : Given) (a : Asked) (job : Job) → IsFor name g a → Allows a job → length (files_of job) ≤ 256
-few_files name g (Run files words given) (RunFiles names arena steps) h allows = let few = h.1.1 in omega (arith, ap length allows.0, few)
-few_files name g (Compile files out words) (CompileFiles names target arena) h allows = let few = h.1.1 in omega (arith, ap length allows.0, few)
-few_files name g (Exec elf given) (ExecFile n steps) h allows = omega arith
-few_files name g (Types files) (TypesFiles names) h allows = let few = h.1.1 in omega (arith, ap length allows, few)
-few_files name g (Gen n k) (GenText number size) h allows = omega arith
-few_files name g a job h allows = absurd allows
+-- the arena where the words give one, and where they don't
+arena_in_range : (words : Option ℕ) → IfSome words IsArena → IsArena (unwrap_or words default_arena)
+arena_in_range None h = (omega arith, omega arith)
+arena_in_range (Some n) h = h
 
-few_asks : (words : List (List ℕ)) (a : Asked) (job : Job) → Asks words a → Allows a job → length (files_of job) ≤ 256
-few_asks [] a job asks allows = absurd asks
-few_asks (program ∷ []) a job asks allows = absurd asks
-few_asks (program ∷ name ∷ words) a job asks allows = few_files name asks.0 a job asks.2 allows
+job_in_range : (a : Asked) (job : Job) → WordsInRange a → Allows a job → IsInRange job
+job_in_range (Run files words given) (RunFiles names arena steps) r allows =
+    let few = r.0.1 in (omega (arith, ap length allows.0, few), subst IsArena (sym allows.1) (arena_in_range words r.1))
+job_in_range (Compile files out words) (CompileFiles names target arena) r allows =
+    let few = r.0.1 in (omega (arith, ap length allows.0, few), subst IsArena (sym allows.2) (arena_in_range words r.1))
+job_in_range (Exec elf given) (ExecFile n steps) r allows = tt
+job_in_range (Types files) (TypesFiles names) r allows = let few = r.1 in omega (arith, ap length allows, few)
+job_in_range (Plan files) (PlanFiles names) r allows = let few = r.1 in omega (arith, ap length allows, few)
+job_in_range (Gen n k) (GenText number size) r allows = tt
+job_in_range a job r allows = absurd allows
 
-pub few_asked : (words : List (List ℕ)) (job : Job) → IsAsked words job → length (files_of job) ≤ 256
-few_asked words job h = few_asks words h.asked job h.asks h.allows
+-- a job that is asked for is in its range
+pub asked_in_range : (words : List (List ℕ)) (a : Asked) → Asks words a → (o : Option Held) → IfSome o (λ j. Allows a (job_of j)) → IfSome o (λ j. IsInRange (job_of j))
+asked_in_range words a asks None h = tt
+asked_in_range words a asks (Some j) h = job_in_range a (job_of j) (asks_in_range words a asks) h

@@ -2,7 +2,7 @@
 
 ghost use Rattle.std.specs.Prelude.{List, ℕ, map, string_bytes, IfOk, IfSome, IfNone, ◌≡◌};
 ghost use Rattle.smlc_words.specs.Asks.{asked};
-ghost use Rattle.smlc_jobs.specs.Job.{IsAsked, Allows, job_of};
+ghost use Rattle.smlc_jobs.specs.Job.{IsAsked, IsInRange, Allows, job_of};
 ghost use Rattle.smlc_jobs.specs.Job.{Job as Wanted};
 
 use smlc_base::NoMemory;
@@ -39,6 +39,10 @@ pub enum Job<'a> {
     Types {
         files: Vec<&'a str>,
     },
+    /// Write the plan of files' closures.
+    Plan {
+        files: Vec<&'a str>,
+    },
     /// Write the large program of this number, with so many functions.
     Gen {
         number: u64,
@@ -49,6 +53,7 @@ pub enum Job<'a> {
 /// The job that the words ask for, if any.
 pub fn find_job<'a>(alloc: Global, words: &'a [String]) -> Result<Option<Job<'a>>, NoMemory>
     ensures some { IfOk result (λ o. IfSome o (λ j. IsAsked (map string_bytes words.now) (job_of j))) }
+    ensures range { IfOk result (λ o. IfSome o (λ j. IsInRange (job_of j))) }
     ensures none { IfOk result (λ o. IfNone o ((wanted : Wanted) → IsAsked (map string_bytes words.now) wanted → ⊥)) }
 {
     match command(alloc, words) {
@@ -83,6 +88,7 @@ fn allowed<'a>(command: Command<'a>) -> Option<Job<'a>>
             steps: steps.unwrap_or(STEPS),
         }),
         Command::Types { files } => Some(Job::Types { files }),
+        Command::Plan { files } => Some(Job::Plan { files }),
         Command::Gen { number, size } => Some(Job::Gen { number, size }),
         _ => None,
     }

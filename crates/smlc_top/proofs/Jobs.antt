@@ -11,17 +11,18 @@ use Rattle.elf_static.specs.Reading.{meaning_of}
 use Rattle.rv_machine.specs.Run.{Mend, Runs, Exited, Trapped}
 use Rattle.smlc_jobs.specs.declared.outcome.Outcome.{Outcome}
 use Rattle.smlc_jobs.specs.declared.outcome.Outcome.TheVariants as outcome
-use Rattle.smlc_jobs.specs.Job.{RunFiles, CompileFiles, ExecFile, TypesFiles, GenText}
+use Rattle.smlc_jobs.specs.Job.{Job, RunFiles, CompileFiles, ExecFile, TypesFiles, PlanFiles, GenText}
 use Rattle.smlc_jobs.specs.Outcome.{exit_outcome, ended_outcome}
 use Rattle.smlc_jobs.specs.Texts.{refused_line}
 use Rattle.generator.specs.Text.{program_text}
 use Rattle.smlc_top.specs.Front.{IsUntyped}
 use Rattle.smlc_top.specs.Types.{Shows}
-use Rattle.smlc_jobs.specs.Write.{Whole}
+use Rattle.smlc_top.specs.Plan.{Plans}
+use Rattle.smlc_jobs.specs.Write.{IsPrefix, Whole}
 use Rattle.smlc_top.specs.Build.{IsElfOf}
 use Rattle.smlc_jobs.specs.Execute.{RanImage, exited, went_on, trapped, had_no_memory, input_fault, out_fault, err_fault, Executed, of_image, not_read, read_memory}
 use Rattle.smlc_jobs.specs.Held.{IsHeld, AreHeld, KeepsFiles, ChangesOnly, HasSaved}
-use Rattle.smlc_top.specs.Clause.{Means, IsRefused, Compiles, Comes, ran, stopped, run_refused, compile_refused, exec_exited, exec_stopped, exec_trapped, exec_not_elf, Midway, running, executing, in_run, in_types, in_gen, generated, typed, types_refused, Performed, fine, want, read_failed, write_failed, error_failed}
+use Rattle.smlc_top.specs.Clause.{Means, IsRefused, Compiles, Comes, ran, stopped, run_refused, compile_refused, exec_exited, exec_stopped, exec_trapped, exec_not_elf, Midway, running, executing, in_run, CutOff, in_types, in_plan, in_gen, generated, typed, types_refused, planned, plan_refused, Performed, fine, want, read_failed, write_failed, error_failed}
 use Rattle.smlc_jobs.specs.Runs.{Tally, IsSame, Intake, intake, TakesNothing, IsRun, IsMidway, Came, tally}
 use Rattle.print_code.proofs.Ends.{Concludes, prints_concludes}
 
@@ -111,51 +112,69 @@ pub types_said : (names : List (List ℕ)) (told kept : Option Files) (files : L
 types_said names told kept files line t t' input held keeps h nothing same =
     fine (outcome.Refused line) (subst (λ (x : List ℕ). Comes told kept input [] [] (TypesFiles names) x 2) (sym h.2) (types_refused names files h.0 held h.1 refl refl keeps nothing)) same
 
+pub plan_said : (names : List (List ℕ)) (told kept : Option Files) (files : List (List ℕ)) (line : Vec ℕ Global) (t t' : Tally) (input : Intake) → AreHeld told names files → KeepsFiles told kept →
+    (refusal : Refusal) × IsUntyped files refusal × (line.items ≡ refused_line names refusal) → TakesNothing input → IsSame t t' → Performed (PlanFiles names) told kept t t' input [] [] (outcome.Refused line)
+plan_said names told kept files line t t' input held keeps h nothing same =
+    fine (outcome.Refused line) (subst (λ (x : List ℕ). Comes told kept input [] [] (PlanFiles names) x 2) (sym h.2) (plan_refused names files h.0 held h.1 refl refl keeps nothing)) same
+
+-- ---- texts that are written
+
+module _ (job : Job) (told kept : Option Files) (text : List ℕ) (input : Option (List ℕ)) (i e store store' o o' : ℕ) (out out' err : Option (List ℕ)) (keeps : KeepsFiles told kept) where
+  abbrev After : Outcome → Type 0
+  After outcome = Came out out' err err (λ w m. Performed job told kept (tally store i o e) (tally store' i o' e) (intake input input) w m outcome)
+
+  text_written : ((w : List ℕ) → w ≡ text → Comes told kept (intake input input) w [] job [] 0) → (u : Unit {0}) → Whole text (Ok u) out out' → store' ≡ store → o' ≡ o → After outcome.Done
+  text_written comes u w same counts = record {
+    wrote = w.wrote;
+    wrote_err = [];
+    gains = w.gains;
+    gains_err = gains_none err;
+    says = fine outcome.Done (comes w.wrote w.all) (record { store = same; input = refl; out = counts; err = refl });
+  }
+
+  text_cut : ((w : List ℕ) → IsPrefix w text → CutOff told (intake input input) w [] job) → (failed : Failed) → Whole text (Err failed) out out' → Fails o o' → After outcome.OutFault
+  text_cut cut failed w f = record {
+    wrote = w.wrote;
+    wrote_err = [];
+    gains = w.gains;
+    gains_err = gains_none err;
+    says = write_failed f.1 (omega arith) (cut w.wrote w.front) keeps;
+  }
+
 -- ---- `types`
 
 module _ (names : List (List ℕ)) (told kept : Option Files) (files : List (List ℕ)) (text : List ℕ) (input : Option (List ℕ)) (i e store store' o o' : ℕ) (out out' err : Option (List ℕ))
     (held : AreHeld told names files) (keeps : KeepsFiles told kept) (shows : Shows files text) where
-  abbrev After : Outcome → Type 0
-  After outcome = Came out out' err err (λ w m. Performed (TypesFiles names) told kept (tally store i o e) (tally store' i o' e) (intake input input) w m outcome)
+  pub types_written : (u : Unit {0}) → Whole text (Ok u) out out' → store' ≡ store → o' ≡ o → After (TypesFiles names) told kept text input i e store store' o o' out out' err keeps outcome.Done
+  types_written = text_written (TypesFiles names) told kept text input i e store store' o o' out out' err keeps
+      (λ w is. typed names files held (subst (λ (x : List ℕ). Shows files x) (sym is) shows) refl keeps (λ bytes h. h))
 
-  pub types_written : (u : Unit {0}) → Whole text (Ok u) out out' → store' ≡ store → o' ≡ o → After outcome.Done
-  types_written u w same counts = record {
-    wrote = w.wrote;
-    wrote_err = [];
-    gains = w.gains;
-    gains_err = gains_none err;
-    says = fine outcome.Done (typed names files held (subst (λ (x : List ℕ). Shows files x) (sym w.all) shows) refl keeps (λ bytes h. h)) (record { store = same; input = refl; out = counts; err = refl });
-  }
+  pub types_cut : (failed : Failed) → Whole text (Err failed) out out' → Fails o o' → After (TypesFiles names) told kept text input i e store store' o o' out out' err keeps outcome.OutFault
+  types_cut = text_cut (TypesFiles names) told kept text input i e store store' o o' out out' err keeps
+      (λ w front. in_types names files text held shows front refl (λ bytes h. h))
 
-  pub types_cut : (failed : Failed) → Whole text (Err failed) out out' → Fails o o' → After outcome.OutFault
-  types_cut failed w f = record {
-    wrote = w.wrote;
-    wrote_err = [];
-    gains = w.gains;
-    gains_err = gains_none err;
-    says = write_failed f.1 (omega arith) (in_types names files text held shows w.front refl (λ bytes h. h)) keeps;
-  }
+-- ---- `plan`
+
+module _ (names : List (List ℕ)) (told kept : Option Files) (files : List (List ℕ)) (text : List ℕ) (input : Option (List ℕ)) (i e store store' o o' : ℕ) (out out' err : Option (List ℕ))
+    (held : AreHeld told names files) (keeps : KeepsFiles told kept) (plans : Plans files text) where
+  pub plan_written : (u : Unit {0}) → Whole text (Ok u) out out' → store' ≡ store → o' ≡ o → After (PlanFiles names) told kept text input i e store store' o o' out out' err keeps outcome.Done
+  plan_written = text_written (PlanFiles names) told kept text input i e store store' o o' out out' err keeps
+      (λ w is. planned names files held (subst (λ (x : List ℕ). Plans files x) (sym is) plans) refl keeps (λ bytes h. h))
+
+  pub plan_cut : (failed : Failed) → Whole text (Err failed) out out' → Fails o o' → After (PlanFiles names) told kept text input i e store store' o o' out out' err keeps outcome.OutFault
+  plan_cut = text_cut (PlanFiles names) told kept text input i e store store' o o' out out' err keeps
+      (λ w front. in_plan names files text held plans front refl (λ bytes h. h))
 
 -- ---- `gen`
 
 module _ (number size : ℕ) (told : Option Files) (input : Option (List ℕ)) (store i e o o' : ℕ) (out out' err : Option (List ℕ)) where
   abbrev Afterwards : Outcome → Type 0
-  Afterwards outcome = Came out out' err err (λ w m. Performed (GenText number size) told told (tally store i o e) (tally store i o' e) (intake input input) w m outcome)
+  Afterwards outcome = After (GenText number size) told told (program_text number size) input i e store store o o' out out' err (λ files t. t) outcome
 
   pub gen_written : (u : Unit {0}) → Whole (program_text number size) (Ok u) out out' → o' ≡ o → Afterwards outcome.Done
-  gen_written u w counts = record {
-    wrote = w.wrote;
-    wrote_err = [];
-    gains = w.gains;
-    gains_err = gains_none err;
-    says = fine outcome.Done (generated number size w.all refl (λ files t. t) (λ bytes h. h)) (record { store = refl; input = refl; out = counts; err = refl });
-  }
+  gen_written u w counts = text_written (GenText number size) told told (program_text number size) input i e store store o o' out out' err (λ files t. t)
+      (λ w is. generated number size is refl (λ files t. t) (λ bytes h. h)) u w refl counts
 
   pub gen_cut : (failed : Failed) → Whole (program_text number size) (Err failed) out out' → Fails o o' → Afterwards outcome.OutFault
-  gen_cut failed w f = record {
-    wrote = w.wrote;
-    wrote_err = [];
-    gains = w.gains;
-    gains_err = gains_none err;
-    says = write_failed f.1 (omega arith) (in_gen number size w.front refl (λ bytes h. h)) (λ files t. t);
-  }
+  gen_cut = text_cut (GenText number size) told told (program_text number size) input i e store store o o' out out' err (λ files t. t)
+      (λ w front. in_gen number size front refl (λ bytes h. h))

@@ -5,4 +5,5 @@ pub mod Fronts
 pub mod Named
 pub mod Marks
 pub mod Telling
+pub mod Planning
 pub mod OneThing

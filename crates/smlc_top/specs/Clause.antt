@@ -19,8 +19,9 @@ use Rattle.generator.specs.Text.{program_text}
 use Rattle.smlc_top.specs.Front.{HasTree, IsUntyped}
 use Rattle.print_code.specs.Plain.{Says, StopsAt}
 use Rattle.smlc_top.specs.Types.{Shows}
+use Rattle.smlc_top.specs.Plan.{Plans}
 use Rattle.smlc_jobs.specs.Held.{IsHeld, AreHeld, LoadsUpTo, KeepsFiles, ChangesOnly, HasSaved}
-use Rattle.smlc_jobs.specs.Job.{Job, RunFiles, CompileFiles, ExecFile, TypesFiles, GenText, IsAsked, files_of, target_of}
+use Rattle.smlc_jobs.specs.Job.{Job, RunFiles, CompileFiles, ExecFile, TypesFiles, PlanFiles, GenText, IsAsked, files_of, target_of}
 use Rattle.print_code.specs.Code.{plan_text}
 use Rattle.print_code.specs.Prints.{Prints}
 use Rattle.smlc_jobs.specs.Texts.{name_at, refused_line, usage_line, memory_line, store_line, input_line, out_line, steps_line, exit_line, elf_line, trap_line}
@@ -75,6 +76,10 @@ pub data Comes (told now : Option Files) (input : Intake) (out merr : List ℕ) 
       merr ≡ [] → KeepsFiles told now → TakesNothing input → Comes told now input out merr (TypesFiles names) [] 0
   types_refused : (names files : List (List ℕ)) (refusal : Refusal) → AreHeld told names files → IsUntyped files refusal →
       out ≡ [] → merr ≡ [] → KeepsFiles told now → TakesNothing input → Comes told now input out merr (TypesFiles names) (refused_line names refusal) 2
+  planned : (names files : List (List ℕ)) → AreHeld told names files → Plans files out →
+      merr ≡ [] → KeepsFiles told now → TakesNothing input → Comes told now input out merr (PlanFiles names) [] 0
+  plan_refused : (names files : List (List ℕ)) (refusal : Refusal) → AreHeld told names files → IsUntyped files refusal →
+      out ≡ [] → merr ≡ [] → KeepsFiles told now → TakesNothing input → Comes told now input out merr (PlanFiles names) (refused_line names refusal) 2
   generated : (number size : ℕ) → out ≡ program_text number size → merr ≡ [] → KeepsFiles told now → TakesNothing input → Comes told now input out merr (GenText number size) [] 0
 
 -- a run that was going on when a fault came, with what it had written
@@ -83,10 +88,11 @@ pub data Midway (told : Option Files) (input : Intake) (out merr : List ℕ) : J
       IsPrefix out text → merr ≡ [] → Midway told input out merr (RunFiles names arena steps)
   executing : (name : List ℕ) (steps : ℕ) (file : List ℕ) (image : Image) → IsHeld told name file → meaning_of file ≡ Ok image → IsMidway image input steps out merr → Midway told input out merr (ExecFile name steps)
 
--- what was going on when a write on out failed: a run, or the text of types or of a large program, of which a prefix was written
+-- what was going on when a write on out failed: a run, or the text of types, of a plan or of a large program, of which a prefix was written
 pub data CutOff (told : Option Files) (input : Intake) (out merr : List ℕ) : Job → Type 0 where
   in_run : (job : Job) → Midway told input out merr job → CutOff told input out merr job
   in_types : (names files : List (List ℕ)) (text : List ℕ) → AreHeld told names files → Shows files text → IsPrefix out text → merr ≡ [] → TakesNothing input → CutOff told input out merr (TypesFiles names)
+  in_plan : (names files : List (List ℕ)) (text : List ℕ) → AreHeld told names files → Plans files text → IsPrefix out text → merr ≡ [] → TakesNothing input → CutOff told input out merr (PlanFiles names)
   in_gen : (number size : ℕ) → IsPrefix out (program_text number size) → merr ≡ [] → TakesNothing input → CutOff told input out merr (GenText number size)
 
 -- what comes whatever the job, or without one

@@ -1,4 +1,5 @@
 pub mod Front
 pub mod Types
+pub mod Plan
 pub mod Clause
 pub mod Build

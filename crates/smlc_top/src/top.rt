@@ -1,7 +1,7 @@
 //! The top call.
 
 ghost use Rattle.std.specs.Prelude.{◌≡◌, ◌≢◌, ◌≤◌, List, [], ℕ, Option, All, length, map, string_bytes, false};
-ghost use Rattle.smlc_jobs.specs.Job.{RunFiles, CompileFiles, ExecFile, TypesFiles, GenText, IsAsked, Serves, files_of, job_of};
+ghost use Rattle.smlc_jobs.specs.Job.{RunFiles, CompileFiles, ExecFile, TypesFiles, PlanFiles, GenText, IsAsked, IsInRange, Serves, job_of};
 ghost use Rattle.smlc_jobs.specs.Job.{Job as Wanted};
 ghost use Rattle.smlc_jobs.specs.Outcome.{is_fault};
 ghost use Rattle.smlc_top.specs.Clause.{Answers, Performed};
@@ -9,6 +9,7 @@ ghost use Rattle.smlc_edge.specs.Edge.{Files};
 ghost use Rattle.smlc_jobs.specs.Runs.{tally, intake, Came};
 
 use crate::build::{Built, build};
+use crate::plan::plan_of;
 use crate::types::{Shown, show};
 use generator::program;
 use smlc_edge::{Sink, Source, Store, StoreError};
@@ -21,9 +22,9 @@ use std::alloc::Global;
 
 /// Does what the words say, and answers the status.
 ///
-/// `run FILE.. [--steps N]` compiles a program of prints and runs it, `compile FILE.. -o OUT` saves what was made as an ELF file, and
-/// `exec ELF [--steps N]` runs any ELF file that keeps to the system calls of the machine. `types FILE..` writes the types of a program's names, and `gen NUMBER SIZE` a large program.
-/// What the program prints and the types go to `out`, and the line of the status to `err`. The status is 0 where all was done, 2 where the files were refused,
+/// `run FILE.. [--arena W] [--steps N]` compiles a program of prints and runs it, `compile FILE.. -o OUT [--arena W]` saves what was made as an ELF file, and
+/// `exec ELF [--steps N]` runs any ELF file that keeps to the system calls of the machine. `types FILE..` writes the types of a program's names, `plan FILE..` what its
+/// closures hold, and `gen NUMBER SIZE` a large program. What the program prints, the types and the plan go to `out`, and the line of the status to `err`. The status is 0 where all was done, 2 where the files were refused,
 /// 4 where so many instructions were done and the program goes on, 5 where the outside failed, 6 for want of memory, 7 where the words are no command,
 /// 8 where the file is no ELF file that can be run, and 9 where the machine has no step.
 pub fn smlc_main<F: Store, I: Source, O: Sink, E: Sink>(
@@ -59,7 +60,7 @@ fn do_job<F: Store, I: Source, O: Sink, E: Sink>(
     out: &mut O,
     err: &mut E,
 ) -> u8
-    requires { length (files_of (job_of job)) ≤ 256 }
+    requires { IsInRange (job_of job) }
     ensures answer { (words : List (List ℕ)) → IsAsked words (job_of job.entry) → Came (O.taken out.old) (O.taken out.new) (E.taken err.old) (E.taken err.new) (λ wrote wrote_err.
         Answers words (F.files store.old) (F.files store.new)
         (tally (F.faults store.old) (I.faults input.old) (O.faults out.old) (E.faults err.old))
@@ -93,6 +94,11 @@ fn do_job<F: Store, I: Source, O: Sink, E: Sink>(
         Job::Types { files } => {
             let names = files.as_slice();
             let outcome = types(alloc, names, store, out);
+            report(err, names, "", &outcome)
+        }
+        Job::Plan { files } => {
+            let names = files.as_slice();
+            let outcome = plan(alloc, names, store, out);
             report(err, names, "", &outcome)
         }
         Job::Gen { number, size } => {
@@ -207,6 +213,29 @@ fn types<F: Store, O: Sink>(alloc: Global, names: &[&str], store: &mut F, out: &
 {
     match load_all(alloc, names, store) {
         Loaded::Files(files) => match show(alloc, names, &files) {
+            Shown::Text(text) => match write_whole(out, &text) {
+                Ok(()) => Outcome::Done,
+                Err(_) => Outcome::OutFault,
+            },
+            Shown::Refused(line) => Outcome::Refused(line),
+            Shown::NoMemory => Outcome::NoMemory,
+        },
+        Loaded::Failed(at) => Outcome::LoadFault(at),
+        Loaded::NoMemory => Outcome::NoMemory,
+    }
+}
+
+// Writes the plan of files' closures.
+fn plan<F: Store, O: Sink>(alloc: Global, names: &[&str], store: &mut F, out: &mut O) -> Outcome
+    requires { length names.now ≤ 256 }
+    ensures performed { (i e : ℕ) (input err : Option (List ℕ)) → Came (O.taken out.old) (O.taken out.new) err err (λ wrote wrote_err.
+        Performed (PlanFiles (map (λ name. name.now) names.now)) (F.files store.old) (F.files store.new)
+        (tally (F.faults store.old) i (O.faults out.old) e)
+        (tally (F.faults store.new) i (O.faults out.new) e) (intake input input) wrote wrote_err result) }
+    ensures sure { All (F.surely_loads store.old) (map (λ name. name.now) names.now) → O.sure out.old → is_fault result ≡ false }
+{
+    match load_all(alloc, names, store) {
+        Loaded::Files(files) => match plan_of(alloc, names, &files) {
             Shown::Text(text) => match write_whole(out, &text) {
                 Ok(()) => Outcome::Done,
                 Err(_) => Outcome::OutFault,

@@ -50,7 +50,7 @@ fn tell(alloc: Global, typed: &Typed) -> Shown
     }
 }
 
-fn refuse(alloc: Global, names: &[&str], refusal: Refusal) -> Shown
+pub(crate) fn refuse(alloc: Global, names: &[&str], refusal: Refusal) -> Shown
     ensures { IsRefusal (map (λ name. name.now) names.now) refusal result }
 {
     match refused_text(alloc, names, &refusal) {

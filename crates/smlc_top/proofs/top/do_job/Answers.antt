@@ -1,7 +1,7 @@
 use Rattle.std.proofs.Common.{ℕ, List, sym, subst}
 use Rattle.std.specs.Prelude.{map}
 use Rattle.std.specs.Borrow.{Bor}
-use Rattle.smlc_jobs.specs.Job.{RunFiles, CompileFiles, ExecFile, TypesFiles, GenText, IsAsked}
+use Rattle.smlc_jobs.specs.Job.{RunFiles, CompileFiles, ExecFile, TypesFiles, PlanFiles, GenText, IsAsked}
 use Rattle.smlc_jobs.specs.Runs.{tally, intake}
 use Rattle.smlc_top.proofs.Answering.{reported}
 use Rattle.smlc_jobs.proofs.Faults.{came_none}
@@ -39,6 +39,15 @@ returns-in-Types-clause-answer g c = λ words asked.
     (tally (g.F.Store.faults c.types-outcome.new.store) i (g.O.Sink.faults c.types-outcome.new.out) e) (intake (g.I.Source.left c.args.input.now) (g.I.Source.left c.args.input.now)) (g.E.Sink.faults c.report-in-Types.new.err) c.report-in-Types.result
     (g.O.Sink.taken c.args.out.now) (g.O.Sink.taken c.types-outcome.new.out) (g.E.Sink.taken c.args.err.now) (g.E.Sink.taken c.args.err.now) (g.E.Sink.taken c.report-in-Types.new.err) c.types-outcome.result (subst (λ (xs : List (Bor (List ℕ))). IsAsked words (TypesFiles (map (λ x. x.now) xs))) (sym c.as_slice-names-in-Types.ensures.value) (rw c.in-Types.is at asked))
     (c.types-outcome.ensures.performed i e (g.I.Source.left c.args.input.now) (g.E.Sink.taken c.args.err.now)) c.report-in-Types.ensures.said
+
+pub returns-in-Plan-clause-answer : goal.returns-in-Plan-clause-answer
+returns-in-Plan-clause-answer g c = λ words asked.
+    let i = g.I.Source.faults c.args.input.now in
+    let e = g.E.Sink.faults c.args.err.now in
+    reported words (g.F.Store.files c.args.store.now) (g.F.Store.files c.plan-outcome.new.store) (PlanFiles (map (λ x. x.now) c.as_slice-names-in-Plan.result.now)) (tally (g.F.Store.faults c.args.store.now) i (g.O.Sink.faults c.args.out.now) e)
+    (tally (g.F.Store.faults c.plan-outcome.new.store) i (g.O.Sink.faults c.plan-outcome.new.out) e) (intake (g.I.Source.left c.args.input.now) (g.I.Source.left c.args.input.now)) (g.E.Sink.faults c.report-in-Plan.new.err) c.report-in-Plan.result
+    (g.O.Sink.taken c.args.out.now) (g.O.Sink.taken c.plan-outcome.new.out) (g.E.Sink.taken c.args.err.now) (g.E.Sink.taken c.args.err.now) (g.E.Sink.taken c.report-in-Plan.new.err) c.plan-outcome.result (subst (λ (xs : List (Bor (List ℕ))). IsAsked words (PlanFiles (map (λ x. x.now) xs))) (sym c.as_slice-names-in-Plan.ensures.value) (rw c.in-Plan.is at asked))
+    (c.plan-outcome.ensures.performed i e (g.I.Source.left c.args.input.now) (g.E.Sink.taken c.args.err.now)) c.report-in-Plan.ensures.said
 
 pub returns-in-Gen-clause-answer : goal.returns-in-Gen-clause-answer
 returns-in-Gen-clause-answer g c = λ words asked.

@@ -2,15 +2,11 @@ use Rattle.std.specs.Prelude.{map, string_bytes}
 use Rattle.smlc_jobs.specs.Texts.{usage_line, memory_line}
 use Rattle.smlc_top.specs.Clause.{no_command, no_memory}
 use Rattle.smlc_jobs.specs.Runs.{tally, intake}
-use Rattle.smlc_jobs.specs.Job.{job_of}
 use Rattle.smlc_top.proofs.Answering.{said_plain}
-use Rattle.smlc_jobs.proofs.Asked.{few_asked}
 use Rattle.smlc_top.proofs.top.smlc_main.Goals as goal
 
 pub do_job-requires : goal.do_job-requires
-do_job-requires g c =
-    let k = rw c.in-Ok-Some.field-0-is at c.in-Ok-Some.ensures.some in
-    few_asked (map string_bytes c.args.words.now) (job_of c.in-Ok-Some.job) k
+do_job-requires g c = rw c.in-Ok-Some.field-0-is at c.in-Ok-Some.ensures.range
 
 pub returns-in-Ok-Some-clause-answer : goal.returns-in-Ok-Some-clause-answer
 returns-in-Ok-Some-clause-answer g c =
