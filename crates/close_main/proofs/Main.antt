@@ -103,7 +103,7 @@ module _ (q : Cps) (kept : IsProgram q) (apart : AreApart (layouts (code_at q.bo
 
   -- ---- What is decided of each function
 
-  known : (f : Entry) → IsAmong f fs → (design_of A).known f.name ≡ Some f.point
+  pub known : (f : Entry) → IsAmong f fs → (design_of A).known f.name ≡ Some f.point
   known f m =
       let o = owner_of q.bodies f m in
       let g = group_of o.1.binds f o.3 in

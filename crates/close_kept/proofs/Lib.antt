@@ -1,0 +1,4 @@
+pub mod Good
+pub mod Below
+pub mod Ordered
+pub mod Kept
