@@ -53,7 +53,11 @@ fn layouts(
 }
 
 /// What is found of a program whose functions have different points.
-pub(crate) fn found(alloc: Global, program: &Cps) -> Result<Known, NoMemory>
+///
+/// # Errors
+///
+/// Want of memory.
+pub fn found(alloc: Global, program: &Cps) -> Result<Known, NoMemory>
     requires { AreApart (layouts_in (code_at program.now.bodies 0)) }
     ensures { IfOk result (IsKnown program.now.variables (code_at program.now.bodies 0)) }
 {

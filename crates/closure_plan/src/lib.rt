@@ -6,5 +6,5 @@
 pub mod known;
 pub mod whole;
 
-pub use known::Known;
-pub use whole::make_plan;
+pub use known::{Known, found};
+pub use whole::{make_plan, plan_of};

@@ -68,7 +68,12 @@ fn rows(
     with_comparison(rows, has_comparison(alloc, program)?)
 }
 
-fn measured(alloc: Global, program: &Cps, known: Known) -> Result<Plan, NoMemory>
+/// The plan of a program of which this is found.
+///
+/// # Errors
+///
+/// Want of memory.
+pub fn plan_of(alloc: Global, program: &Cps, known: Known) -> Result<Plan, NoMemory>
     requires known { IsKnown program.now.variables (code_at program.now.bodies 0) known }
     requires apart { AreApart known.functions }
     ensures { IfOk result (λ p. p ≡ plan program.now.variables (tree_of program.now)) }
@@ -99,5 +104,5 @@ pub fn make_plan(alloc: Global, program: &Cps) -> Result<Plan, NoMemory>
     ensures { IfOk result (λ p. p ≡ plan program.now.variables (tree_of program.now)) }
 {
     let known = found(alloc, program)?;
-    measured(alloc, program, known)
+    plan_of(alloc, program, known)
 }

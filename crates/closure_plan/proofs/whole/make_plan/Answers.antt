@@ -7,5 +7,5 @@ use Rattle.closure_plan.proofs.whole.make_plan.Goals as goal
 pub found-requires : goal.found-requires
 found-requires c = slim_apart (tree_of c.args.program.now) c.requires
 
-pub measured-requires-clause-apart : goal.measured-requires-clause-apart
-measured-requires-clause-apart c = subst AreApart (sym c.in_ok-known.ensures.functions) (slim_apart (tree_of c.args.program.now) c.requires)
+pub plan_of-requires-clause-apart : goal.plan_of-requires-clause-apart
+plan_of-requires-clause-apart c = subst AreApart (sym c.in_ok-known.ensures.functions) (slim_apart (tree_of c.args.program.now) c.requires)
