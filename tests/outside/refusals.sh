@@ -43,7 +43,6 @@ done <<'CASES'
 1:9: refused 6 NotInSubset real|val x = 1.5
 1:9: refused 6 NotInSubset word|val x = 0w1
 1:14: refused 6 NotInSubset datatype|datatype t = datatype u
-1:1: refused 6 NotInSubset later|val _ = fn x => x
 1:9: refused 10 Unbound|val x = y
 1:9: refused 10 Unbound|val x : t = 1
 1:15: refused 10 Unbound|fun f x = (x, y)
@@ -57,16 +56,11 @@ CASES
 
 { printf 'val _ = '; times 1023 '('; printf 0; times 1023 ')'; } > "$folder/f.sml"
 refused '1:1: refused 8 TooDeep'
-{ printf 'val _ = '; times 1022 '('; printf 0; times 1022 ')'; } > "$folder/f.sml"
-refused '1:1: refused 6 NotInSubset later'
 { printf 'val _ = '; times 1000000 '('; } > "$folder/f.sml"
 refused '1:1000009: refused 4 Syntax'
 names=$(seq -s ', ' -f 'a%g' 0 2999)
 printf 'fun f (%s) = (%s)' "$names" "$names" > "$folder/f.sml"
 refused '1:1: refused 9 TooWide'
-names=$(seq -s ', ' -f 'a%g' 0 999)
-printf 'fun f (%s) = (%s)' "$names" "$names" > "$folder/f.sml"
-refused '1:1: refused 6 NotInSubset later'
 times 1048577 ' ' > "$folder/f.sml"
 refused '1:1: refused 7 TooLong'
 

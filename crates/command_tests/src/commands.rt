@@ -155,32 +155,61 @@ const PROGRAMS: &[Case] = &[
         store: &[],
         out: &[],
         written: "",
-        error: "f.sml:1:1: refused 6 NotInSubset later\n",
-        status: 2,
+        error: "",
+        status: 0,
     },
     Case {
         files: &["val _ = (1 :: 2 :: nil)"],
         store: &[],
         out: &[],
         written: "",
-        error: "f.sml:1:1: refused 6 NotInSubset later\n",
-        status: 2,
+        error: "",
+        status: 0,
     },
     Case {
         files: &["val _ = print \"a\"\n", "\n  val x = print \"b\""],
         store: &[],
         out: &[],
-        written: "",
-        error: "g.sml:2:3: refused 6 NotInSubset later\n",
-        status: 2,
+        written: "ab",
+        error: "",
+        status: 0,
     },
     Case {
         files: &["val _ = print \"a\" and _ = print \"b\""],
         store: &[],
         out: &[],
+        written: "ab",
+        error: "",
+        status: 0,
+    },
+    Case {
+        files: &[
+            "fun fib n = if n < 2 then n else fib (n - 1) + fib (n - 2)\n",
+            "val _ = print (Int.toString (fib 10) ^ \"\\n\")",
+        ],
+        store: &[],
+        out: &[],
+        written: "55\n",
+        error: "",
+        status: 0,
+    },
+    Case {
+        files: &[
+            "exception E of int\nval _ = print \"a\"\nval _ = if 1 < 2 then raise E 3 else ()",
+        ],
+        store: &[],
+        out: &[],
+        written: "a",
+        error: "uncaught exception E\n",
+        status: 1,
+    },
+    Case {
+        files: &["fun f x = print (Int.toString x)\nval _ = f 1"],
+        store: &[],
+        out: &[1],
         written: "",
-        error: "f.sml:1:1: refused 6 NotInSubset later\n",
-        status: 2,
+        error: "fault out\n",
+        status: 5,
     },
     Case {
         files: &["val _ = print x"],
@@ -405,5 +434,20 @@ fn words_that_are_no_command(rt: HostRuntime) -> Result<(), Fail> {
             b"usage: smlc compile|run|meter|exec|types|plan|gen|bench\n".as_slice()
         );
     }
+    Ok(())
+}
+
+#[test]
+fn a_full_arena(rt: HostRuntime) -> Result<(), Fail> {
+    let alloc = rt.alloc();
+    let mut store = MemStore::new(alloc, Vec::new(alloc));
+    store.add("f.sml", b"fun f l = f (1 :: l)\nval _ = f nil\n")?;
+    let mut input = QuietSource::new(Vec::new(alloc));
+    let mut out = QuietSink::new();
+    let mut err = sink(alloc, &[])?;
+    let words = words(alloc, &["smlc", "run", "f.sml", "--arena", "1024"])?;
+    let status = smlc_main(alloc, &words, &mut store, &mut input, &mut out, &mut err);
+    assert_eq!(rt; status, 3);
+    assert_eq!(rt; err.bytes(), b"arena used 1023 next 2 of 1024\n".as_slice());
     Ok(())
 }

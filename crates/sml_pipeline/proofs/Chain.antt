@@ -9,12 +9,16 @@ use Rattle.cps_ir.specs.Free.{bound}
 use Rattle.cps_ir.specs.Slim.{IsSlim}
 use Rattle.cps_ir.specs.Program.{Cps, tree_of}
 use Rattle.cps_ir.specs.Kept.{IsProgram}
+use Rattle.closure_ir.specs.Code as closed
 use Rattle.close_laws.specs.declared.plan.Plan.{Plan}
+use Rattle.close_laws.specs.Close.{close}
 use Rattle.close_laws.specs.Plan.{plan}
 use Rattle.close_laws.specs.Text.{plan_text}
+use Rattle.placed_ir.specs.Program as placing
+use Rattle.place_laws.specs.Place.{place_program}
 use Rattle.convert_slim.specs.Law.{MiddleIsSlim}
 use Rattle.sml_middle.specs.Middle.{middle_of}
-use Rattle.sml_pipeline.specs.Passes.{IsAbove, IsPlanText}
+use Rattle.sml_pipeline.specs.Passes.{IsAbove, IsPlaced, IsPlanText}
 
 module _ (ts : List TypeName) (p : Bare) (q : Cps) (is : tree_of q ≡ middle_of ts p) where
   pub slim : MiddleIsSlim → IsBare p → IsSlim (tree_of q)
@@ -23,9 +27,11 @@ module _ (ts : List TypeName) (p : Bare) (q : Cps) (is : tree_of q ≡ middle_of
   pub above : IsProgram q → IsAbove (middle_of ts p) q.variables
   above kept = subst (λ (t : Tree). AllByRecursion (λ x. x < q.variables) (bound t.code)) is kept.below
 
-  pub planned : IsProgram q → (made : Plan) (text : List ℕ) → made ≡ plan q.variables (tree_of q) → text ≡ plan_text made → IsPlanText ts p text
-  planned kept made text e f = record {
+  pub becomes : IsProgram q → (c : closed.Tree) (placed : placing.Placed) (found made : Plan) → c ≡ close q.variables (tree_of q) → placing.tree_of placed ≡ place_program c → found ≡ plan q.variables (tree_of q) →
+      made ≡ record found { spill = placed.spill } → IsPlaced ts p placed made
+  becomes kept c placed found made e f g h = record {
     fresh = q.variables;
     above = above kept;
-    is = f ∙ ap plan_text e ∙ ap (λ (t : Tree). plan_text (plan q.variables t)) is;
+    tree = f ∙ ap place_program e ∙ ap (λ (t : Tree). place_program (close q.variables t)) is;
+    plan = h ∙ ap (λ (m : Plan). record m { spill = placed.spill }) g ∙ ap (λ (t : Tree). record (plan q.variables t) { spill = placed.spill }) is;
   }

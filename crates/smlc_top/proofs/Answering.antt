@@ -81,13 +81,13 @@ module _ (words : List (List ℕ)) (told files : Option Files) (before now : Tal
     performed _ (load_failed i upto f none no_err keeps nothing l) front how =
         let line = store_line (name_at (files_of job) i) in
         with_status 5 (five wrote line now.err e' r how) (not_loaded job i asked upto f.1 none keeps nothing (named_behind before (record now { err = e' }) line merr wrote no_err (named before now line wrote e' r l front how)))
-    performed _ (save_failed names held_files target text arena image is held means compiles f none no_err changes nothing l) front how =
+    performed _ (save_failed names held_files target arena image is held compiled f none no_err changes nothing l) front how =
         let asked' : IsAsked words (CompileFiles names target arena) = subst (λ (j : Job). IsAsked words j) is asked in
         let same_target : target_of job ≡ target = ap target_of is in
         let said : Names before (record now { err = e' }) (store_line target) wrote =
         subst (λ (t : List ℕ). Names before (record now { err = e' }) (store_line t) wrote) same_target (named before now (store_line (target_of job)) wrote e' r l front how) in
         with_status 5 (five wrote (store_line (target_of job)) now.err e' r how)
-        (not_saved names held_files target text arena image asked' held means compiles f.1 none changes nothing (named_behind before (record now { err = e' }) (store_line target) merr wrote no_err said))
+        (not_saved names held_files target arena image asked' held compiled f.1 none changes nothing (named_behind before (record now { err = e' }) (store_line target) merr wrote no_err said))
     performed _ (read_failed f l midway keeps) front how =
         with_status 5 (five wrote input_line now.err e' r how) (input_failed job merr wrote asked f.1 midway keeps (named before now input_line wrote e' r l front how) refl)
     performed _ (write_failed f l midway keeps) front how =

@@ -1,5 +1,7 @@
 -- jobs from their parts
-use Rattle.std.proofs.Common.{◌≡◌, ℕ, ◌+◌, ◌*◌, List, [], length, Option, Some, Ok, Err, arith, refl, sym, subst}
+use Rattle.std.proofs.Common.{◌≡◌, ◌≢◌, ◌≤◌, ◌⊎◌, inl, inr, Bool, true, false, ℕ, ◌+◌, ◌*◌, List, [], length, Option, Some, Ok, Err, arith, refl, sym, subst}
+use Rattle.std.specs.Prelude.{◌==◌, if◌then◌else◌}
+use Rattle.std.proofs.lemmas.Bool.Decides.{eqb_tells}
 use Rattle.std.specs.declared.vec.Vec.{Vec}
 use Rattle.std.specs.declared.alloc.Global.{Global}
 use Rattle.smlc_base.specs.declared.refusal.Refusal.{Refusal}
@@ -19,11 +21,11 @@ use Rattle.smlc_top.specs.Front.{IsUntyped}
 use Rattle.smlc_top.specs.Types.{Shows}
 use Rattle.smlc_top.specs.Plan.{Plans}
 use Rattle.smlc_jobs.specs.Write.{IsPrefix, Whole}
-use Rattle.smlc_top.specs.Build.{IsElfOf}
+use Rattle.smlc_top.specs.Build.{IsElfOf, IsElf, of_prints, of_passes}
 use Rattle.smlc_jobs.specs.Execute.{RanImage, exited, went_on, trapped, had_no_memory, input_fault, out_fault, err_fault, Executed, of_image, not_read, read_memory}
 use Rattle.smlc_jobs.specs.Held.{IsHeld, AreHeld, KeepsFiles, ChangesOnly, HasSaved}
-use Rattle.smlc_top.specs.Clause.{Means, IsRefused, Compiles, Comes, ran, stopped, run_refused, compile_refused, exec_exited, exec_stopped, exec_trapped, exec_not_elf, Midway, running, executing, in_run, CutOff, in_types, in_plan, in_gen, generated, typed, types_refused, planned, plan_refused, Performed, fine, want, read_failed, write_failed, error_failed}
-use Rattle.smlc_jobs.specs.Runs.{Tally, IsSame, Intake, intake, TakesNothing, IsRun, IsMidway, Came, tally}
+use Rattle.smlc_top.specs.Clause.{Means, Becomes, Compiles, IsCompiled, prints, passes, compiled, program_ended, program_uncaught, program_full, program_exited, program_stopped, program_trapped, program_compiled, program_running, Comes, ran, stopped, run_refused, compile_refused, exec_exited, exec_stopped, exec_trapped, exec_not_elf, Midway, running, executing, in_run, CutOff, in_types, in_plan, in_gen, generated, typed, types_refused, planned, plan_refused, Performed, fine, want, read_failed, write_failed, error_failed}
+use Rattle.smlc_jobs.specs.Runs.{Tally, IsSame, Intake, intake, TakesNothing, IsRun, IsExit, IsMidway, Came, tally}
 use Rattle.print_code.proofs.Ends.{Concludes, prints_concludes}
 
 -- ---- `run`
@@ -58,7 +60,7 @@ module _ (names : List (List ℕ)) (told kept : Option Files) (arena steps : ℕ
   run_image _ (out_fault f l m) = write_failed f l (in_run (RunFiles names arena steps) (midway m)) keeps
   run_image _ (err_fault f m) = error_failed f (midway m) keeps
 
-pub run_executed : (names : List (List ℕ)) (told kept : Option Files) (arena steps : ℕ) (files : List (List ℕ)) (text bytes : List ℕ) (t t' : Tally) (input : Intake) (w e : List ℕ) (o : Outcome) → AreHeld told names files → KeepsFiles told kept →
+run_executed : (names : List (List ℕ)) (told kept : Option Files) (arena steps : ℕ) (files : List (List ℕ)) (text bytes : List ℕ) (t t' : Tally) (input : Intake) (w e : List ℕ) (o : Outcome) → AreHeld told names files → KeepsFiles told kept →
     Means files text → IsElfOf text bytes → Executed bytes steps t t' input w e o → Performed (RunFiles names arena steps) told kept t t' input w e (ended_outcome arena o)
 run_executed names told kept arena steps files text bytes t t' input w e _ held keeps means made (of_image image o read h) =
     let a : meaning_of bytes ≡ Ok made.image = made.read in
@@ -66,6 +68,55 @@ run_executed names told kept arena steps files text bytes t t' input w e _ held 
     run_image names told kept arena steps files text image t t' input w e held keeps means (subst (λ (i : Image). Compiles text i) same made.compiles) o h
 run_executed names told kept arena steps files text bytes t t' input w e _ held keeps means made (not_read kind at bad p q n same) = let a : meaning_of bytes ≡ Ok made.image = made.read in absurd (cc)
 run_executed names told kept arena steps files text bytes t t' input w e _ held keeps means made (read_memory p q n same) = want p q keeps n same
+
+-- ---- `run` of any other program
+
+by_test : (P : Outcome → Type 0) (a b : ℕ) (x y : Outcome) → (a ≡ b → P x) → (a ≢ b → P y) → P (if a == b then x else y)
+by_test P a b x y f g = go (eqb_tells a b)
+  where
+    go : (((a == b) ≡ true) × (a ≡ b)) ⊎ (((a == b) ≡ false) × (a ≢ b)) → P (if a == b then x else y)
+    go (inl h) = subst (λ (t : Bool). P (if t then x else y)) (sym h.0) (f h.1)
+    go (inr h) = subst (λ (t : Bool). P (if t then x else y)) (sym h.0) (g h.1)
+
+module _ (names : List (List ℕ)) (told kept : Option Files) (arena steps : ℕ) (files : List (List ℕ)) (image : Image) (t t' : Tally) (input : Intake) (w e : List ℕ)
+    (held : AreHeld told names files) (keeps : KeepsFiles told kept) (becomes : Becomes files arena image) where
+  abbrev Ends : Outcome → Type 0
+  Ends o = Performed (RunFiles names arena steps) told kept t t' input w e o
+
+  at_exit : (status x11 x12 : ℕ) → IsExit image input steps status x11 x12 w e → IsSame t t' → Ends (exit_outcome arena status x11 x12)
+  at_exit status x11 x12 x same =
+      by_test Ends status 0 outcome.Done (if status == 1 then outcome.Uncaught else if status == 3 then outcome.ArenaFull x11 x12 arena else outcome.Exited status x11 x12)
+      (λ h. fine outcome.Done (program_ended names arena steps files image held becomes (subst (λ (n : ℕ). IsRun image input steps (Exited n) w e) h x.run) keeps) same)
+      (λ n0. by_test Ends status 1 outcome.Uncaught (if status == 3 then outcome.ArenaFull x11 x12 arena else outcome.Exited status x11 x12)
+      (λ h. fine outcome.Uncaught (program_uncaught names arena steps files image held becomes (subst (λ (n : ℕ). IsRun image input steps (Exited n) w e) h x.run) keeps) same)
+      (λ n1. by_test Ends status 3 (outcome.ArenaFull x11 x12 arena) (outcome.Exited status x11 x12)
+      (λ h. fine (outcome.ArenaFull x11 x12 arena) (program_full names arena steps files image x11 x12 held becomes (subst (λ (n : ℕ). IsExit image input steps n x11 x12 w e) h x) keeps) same)
+      (λ n3. fine (outcome.Exited status x11 x12) (program_exited names arena steps files image status held becomes n0 n1 n3 x.run keeps) same)))
+
+  going : IsMidway image input steps w e → Midway told input w e (RunFiles names arena steps)
+  going m = program_running names arena steps files image held becomes m
+
+  run_passed : (o : Outcome) → RanImage image steps t t' input w e o → Ends (ended_outcome arena o)
+  run_passed _ (exited status x11 x12 x same) = at_exit status x11 x12 x same
+  run_passed _ (went_on r same) = fine (outcome.Steps steps) (program_stopped names arena steps files image held becomes r keeps) same
+  run_passed _ (trapped pc word r same) = fine (outcome.Trapped pc word) (program_trapped names arena steps files image pc word held becomes r keeps) same
+  run_passed _ (had_no_memory p q n same) = want p q keeps n same
+  run_passed _ (input_fault f l m) = read_failed f l (going m) keeps
+  run_passed _ (out_fault f l m) = write_failed f l (in_run (RunFiles names arena steps) (going m)) keeps
+  run_passed _ (err_fault f m) = error_failed f (going m) keeps
+
+passed_executed : (names : List (List ℕ)) (told kept : Option Files) (arena steps : ℕ) (files : List (List ℕ)) (image : Image) (bytes : List ℕ) (t t' : Tally) (input : Intake) (w e : List ℕ) (o : Outcome) → AreHeld told names files → KeepsFiles told kept →
+    Becomes files arena image → meaning_of bytes ≡ Ok image → Executed bytes steps t t' input w e o → Performed (RunFiles names arena steps) told kept t t' input w e (ended_outcome arena o)
+passed_executed names told kept arena steps files image bytes t t' input w e _ held keeps becomes made (of_image other o read h) =
+    let same : image ≡ other = cc in
+    run_passed names told kept arena steps files other t t' input w e held keeps (subst (λ (i : Image). Becomes files arena i) same becomes) o h
+passed_executed names told kept arena steps files image bytes t t' input w e _ held keeps becomes made (not_read kind at bad p q n same) = absurd (cc)
+passed_executed names told kept arena steps files image bytes t t' input w e _ held keeps becomes made (read_memory p q n same) = want p q keeps n same
+
+pub built_executed : (names : List (List ℕ)) (told kept : Option Files) (arena steps : ℕ) (files : List (List ℕ)) (bytes : List ℕ) (t t' : Tally) (input : Intake) (w e : List ℕ) (o : Outcome) → AreHeld told names files → KeepsFiles told kept →
+    IsElf files arena bytes → Executed bytes steps t t' input w e o → Performed (RunFiles names arena steps) told kept t t' input w e (ended_outcome arena o)
+built_executed names told kept arena steps files bytes t t' input w e o held keeps (of_prints text means made) h = run_executed names told kept arena steps files text bytes t t' input w e o held keeps means made h
+built_executed names told kept arena steps files bytes t t' input w e o held keeps (of_passes image becomes made bounded) h = passed_executed names told kept arena steps files image bytes t t' input w e o held keeps becomes made h
 
 -- ---- `exec`
 
@@ -95,15 +146,31 @@ has_saved told loaded saved target bytes u keeps saves = λ files t. let s = sav
 pub changes_only : (told loaded saved : Option Files) (target bytes : List ℕ) (e : Failed) → KeepsFiles told loaded → ((before : Files) → loaded ≡ Some before → Saves before target bytes (Err e) saved) → ChangesOnly told saved target
 changes_only told loaded saved target bytes e keeps saves = λ files t. let s = saves files (keeps files t) in (s.now, s.tells, s.others)
 
+-- what is saved isn't too long, and is what was compiled
+pub bounded : (files : List (List ℕ)) (arena : ℕ) (bytes : List ℕ) → IsElf files arena bytes → length bytes ≤ 8589934592
+bounded files arena bytes (of_prints text means made) = made.bounded
+bounded files arena bytes (of_passes image becomes made short) = short
+
+pub compiled_of : (files : List (List ℕ)) (arena : ℕ) (bytes : List ℕ) → IsElf files arena bytes → (image : Image) × IsCompiled files arena image
+compiled_of files arena bytes (of_prints text means made) = (made.image, prints text means made.compiles)
+compiled_of files arena bytes (of_passes image becomes made short) = (image, passes becomes)
+
+pub built_saved : (names : List (List ℕ)) (target : List ℕ) (arena : ℕ) (told saved : Option Files) (files : List (List ℕ)) (bytes : List ℕ) (t t' : Tally) (input : Intake) → AreHeld told names files → IsElf files arena bytes →
+    HasSaved told saved target bytes → TakesNothing input → IsSame t t' → Performed (CompileFiles names target arena) told saved t t' input [] [] outcome.Done
+built_saved names target arena told saved files bytes t t' input held (of_prints text means made) has nothing same =
+    fine outcome.Done (compiled names files target text bytes arena made.image held means made.compiles made.read has refl refl nothing) same
+built_saved names target arena told saved files bytes t t' input held (of_passes image becomes made short) has nothing same =
+    fine outcome.Done (program_compiled names files target bytes arena image held becomes made has refl refl nothing) same
+
 -- ---- refusals
 
 pub run_said : (names : List (List ℕ)) (told kept : Option Files) (arena steps : ℕ) (files : List (List ℕ)) (line : Vec ℕ Global) (t t' : Tally) (input : Intake) → AreHeld told names files → KeepsFiles told kept →
-    (refusal : Refusal) × IsRefused files refusal × (line.items ≡ refused_line names refusal) → TakesNothing input → IsSame t t' → Performed (RunFiles names arena steps) told kept t t' input [] [] (outcome.Refused line)
+    (refusal : Refusal) × IsUntyped files refusal × (line.items ≡ refused_line names refusal) → TakesNothing input → IsSame t t' → Performed (RunFiles names arena steps) told kept t t' input [] [] (outcome.Refused line)
 run_said names told kept arena steps files line t t' input held keeps h nothing same =
     fine (outcome.Refused line) (subst (λ (x : List ℕ). Comes told kept input [] [] (RunFiles names arena steps) x 2) (sym h.2) (run_refused names arena steps files h.0 held h.1 refl refl keeps nothing)) same
 
 pub compile_said : (names : List (List ℕ)) (target : List ℕ) (arena : ℕ) (told kept : Option Files) (files : List (List ℕ)) (line : Vec ℕ Global) (t t' : Tally) (input : Intake) → AreHeld told names files → KeepsFiles told kept →
-    (refusal : Refusal) × IsRefused files refusal × (line.items ≡ refused_line names refusal) → TakesNothing input → IsSame t t' → Performed (CompileFiles names target arena) told kept t t' input [] [] (outcome.Refused line)
+    (refusal : Refusal) × IsUntyped files refusal × (line.items ≡ refused_line names refusal) → TakesNothing input → IsSame t t' → Performed (CompileFiles names target arena) told kept t t' input [] [] (outcome.Refused line)
 compile_said names target arena told kept files line t t' input held keeps h nothing same =
     fine (outcome.Refused line) (subst (λ (x : List ℕ). Comes told kept input [] [] (CompileFiles names target arena) x 2) (sym h.2) (compile_refused names files target arena h.0 held h.1 refl refl keeps nothing)) same
 

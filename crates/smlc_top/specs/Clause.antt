@@ -1,12 +1,12 @@
 -- What the program answers.
-use Rattle.std.specs.Prelude.{ℕ, ◌≡◌, ◌≤◌, ◌+◌, ◌*◌, List, [], ◌++◌, length, Option, Ok, Err}
+use Rattle.std.specs.Prelude.{ℕ, ◌≡◌, ◌≢◌, ◌≤◌, ◌+◌, ◌*◌, List, [], ◌++◌, length, Option, Ok, Err}
 use Rattle.smlc_base.specs.declared.place.Place.{Place}
 use Rattle.smlc_base.specs.declared.refusal.Refusal.{Refusal}
-use Rattle.smlc_base.specs.declared.refusal.Refusal.TheVariants.{NotInSubset}
-use Rattle.smlc_base.specs.declared.refusal.Banned.TheVariants.{Later}
 use Rattle.smlc_edge.specs.Edge.{Files, Rose, Fails}
 use Rattle.sml_tree.specs.declared.bare.Bare.{Bare}
+use Rattle.sml_types.specs.declared.typed.Typed.{Typed}
 use Rattle.sml_types.specs.Typing.{IsTypable}
+use Rattle.sml_pipeline.specs.Passes.{IsImageOf}
 use Rattle.elf_static.specs.declared.image.Image.{Image}
 use Rattle.elf_static.specs.declared.error.ElfKind.{ElfKind}
 use Rattle.elf_static.specs.declared.error.ElfError.TheVariants as elf
@@ -16,7 +16,7 @@ use Rattle.rv_machine.specs.Run.{Runs, Exited, Trapped}
 use Rattle.smlc_jobs.specs.declared.outcome.Outcome.{Outcome}
 use Rattle.smlc_jobs.specs.declared.outcome.Outcome.TheVariants as outcome
 use Rattle.generator.specs.Text.{program_text}
-use Rattle.smlc_top.specs.Front.{HasTree, IsUntyped}
+use Rattle.smlc_top.specs.Front.{HasTree, HasTypes, IsUntyped}
 use Rattle.print_code.specs.Plain.{Says, StopsAt}
 use Rattle.smlc_top.specs.Types.{Shows}
 use Rattle.smlc_top.specs.Plan.{Plans}
@@ -24,10 +24,10 @@ use Rattle.smlc_jobs.specs.Held.{IsHeld, AreHeld, LoadsUpTo, KeepsFiles, Changes
 use Rattle.smlc_jobs.specs.Job.{Job, RunFiles, CompileFiles, ExecFile, TypesFiles, PlanFiles, GenText, IsAsked, files_of, target_of}
 use Rattle.print_code.specs.Code.{plan_text}
 use Rattle.print_code.specs.Prints.{Prints}
-use Rattle.smlc_jobs.specs.Texts.{name_at, refused_line, usage_line, memory_line, store_line, input_line, out_line, steps_line, exit_line, elf_line, trap_line}
+use Rattle.smlc_jobs.specs.Texts.{name_at, refused_line, usage_line, memory_line, store_line, input_line, out_line, steps_line, exit_line, full_line, elf_line, trap_line}
 use Rattle.smlc_jobs.specs.Write.{IsPrefix}
 use Rattle.smlc_jobs.specs.Outcome.{line_of, status_of}
-use Rattle.smlc_jobs.specs.Runs.{Tally, IsSame, Intake, TakesNothing, IsRun, IsMidway}
+use Rattle.smlc_jobs.specs.Runs.{Tally, IsSame, Intake, TakesNothing, IsRun, IsExit, IsMidway}
 
 -- ---- files
 
@@ -38,16 +38,24 @@ pub record Means (files : List (List ℕ)) (text : List ℕ) : Type 0 where
   pub typable : IsTypable bare
   pub says : Says bare 0 text
 
--- With what files are refused that are to be compiled: they have no typing, or there is a declaration that is no print.
-pub data IsRefused (files : List (List ℕ)) : Refusal → Type 0 where
-  untyped : (r : Refusal) → IsUntyped files r → IsRefused files r
-  later : (bare : Bare) (place : Place) → HasTree files bare → IsTypable bare → StopsAt bare 0 place → IsRefused files (NotInSubset place Later)
+-- the files have a principal typing, there is a declaration that is no print, and the image is what all passes make of their tree and its type names
+pub record Becomes (files : List (List ℕ)) (arena : ℕ) (image : Image) : Type 0 where
+  pub typed : Typed
+  pub types : HasTypes files typed
+  pub place : Place
+  pub other : StopsAt typed.bare 0 place
+  pub passed : IsImageOf typed.tables.names typed.bare arena image
 
 -- The image prints the text, and does at most 64 instructions for each of its bytes, and 64 more. It has no entries, and its plan says so much.
 pub record Compiles (text : List ℕ) (image : Image) : Type 0 where
   pub prints : Prints image text (64 * (1 + length text))
   pub entries : image.entries ≡ no_entries
   pub plan : image.plan ≡ plan_text
+
+-- what is compiled: a program of prints, or any other
+pub data IsCompiled (files : List (List ℕ)) (arena : ℕ) (image : Image) : Type 0 where
+  prints : (text : List ℕ) → Means files text → Compiles text image → IsCompiled files arena image
+  passes : Becomes files arena image → IsCompiled files arena image
 
 -- ---- the whole call
 
@@ -58,11 +66,25 @@ pub data Comes (told now : Option Files) (input : Intake) (out merr : List ℕ) 
       merr ≡ [] → KeepsFiles told now → Comes told now input out merr (RunFiles names arena steps) [] 0
   stopped : (names : List (List ℕ)) (arena steps : ℕ) (files : List (List ℕ)) (text : List ℕ) (image : Image) → AreHeld told names files → Means files text → Compiles text image → IsRun image input steps Runs out [] →
       IsPrefix out text → merr ≡ [] → KeepsFiles told now → Comes told now input out merr (RunFiles names arena steps) (steps_line steps) 4
-  run_refused : (names : List (List ℕ)) (arena steps : ℕ) (files : List (List ℕ)) (refusal : Refusal) → AreHeld told names files → IsRefused files refusal →
+  run_refused : (names : List (List ℕ)) (arena steps : ℕ) (files : List (List ℕ)) (refusal : Refusal) → AreHeld told names files → IsUntyped files refusal →
       out ≡ [] → merr ≡ [] → KeepsFiles told now → TakesNothing input → Comes told now input out merr (RunFiles names arena steps) (refused_line names refusal) 2
+  program_ended : (names : List (List ℕ)) (arena steps : ℕ) (files : List (List ℕ)) (image : Image) → AreHeld told names files → Becomes files arena image → IsRun image input steps (Exited 0) out merr →
+      KeepsFiles told now → Comes told now input out merr (RunFiles names arena steps) [] 0
+  program_uncaught : (names : List (List ℕ)) (arena steps : ℕ) (files : List (List ℕ)) (image : Image) → AreHeld told names files → Becomes files arena image → IsRun image input steps (Exited 1) out merr →
+      KeepsFiles told now → Comes told now input out merr (RunFiles names arena steps) [] 1
+  program_full : (names : List (List ℕ)) (arena steps : ℕ) (files : List (List ℕ)) (image : Image) (used next : ℕ) → AreHeld told names files → Becomes files arena image → IsExit image input steps 3 used next out merr →
+      KeepsFiles told now → Comes told now input out merr (RunFiles names arena steps) (full_line used next arena) 3
+  program_exited : (names : List (List ℕ)) (arena steps : ℕ) (files : List (List ℕ)) (image : Image) (status : ℕ) → AreHeld told names files → Becomes files arena image → status ≢ 0 → status ≢ 1 → status ≢ 3 → IsRun image input steps (Exited status) out merr →
+      KeepsFiles told now → Comes told now input out merr (RunFiles names arena steps) (exit_line status) 0
+  program_stopped : (names : List (List ℕ)) (arena steps : ℕ) (files : List (List ℕ)) (image : Image) → AreHeld told names files → Becomes files arena image → IsRun image input steps Runs out merr →
+      KeepsFiles told now → Comes told now input out merr (RunFiles names arena steps) (steps_line steps) 4
+  program_trapped : (names : List (List ℕ)) (arena steps : ℕ) (files : List (List ℕ)) (image : Image) (pc word : ℕ) → AreHeld told names files → Becomes files arena image → IsRun image input steps (Trapped pc word) out merr →
+      KeepsFiles told now → Comes told now input out merr (RunFiles names arena steps) (trap_line pc word) 9
+  program_compiled : (names files : List (List ℕ)) (target bytes : List ℕ) (arena : ℕ) (image : Image) → AreHeld told names files → Becomes files arena image → meaning_of bytes ≡ Ok image →
+      HasSaved told now target bytes → out ≡ [] → merr ≡ [] → TakesNothing input → Comes told now input out merr (CompileFiles names target arena) [] 0
   compiled : (names files : List (List ℕ)) (target text bytes : List ℕ) (arena : ℕ) (image : Image) → AreHeld told names files → Means files text → Compiles text image → meaning_of bytes ≡ Ok image →
       HasSaved told now target bytes → out ≡ [] → merr ≡ [] → TakesNothing input → Comes told now input out merr (CompileFiles names target arena) [] 0
-  compile_refused : (names files : List (List ℕ)) (target : List ℕ) (arena : ℕ) (refusal : Refusal) → AreHeld told names files → IsRefused files refusal →
+  compile_refused : (names files : List (List ℕ)) (target : List ℕ) (arena : ℕ) (refusal : Refusal) → AreHeld told names files → IsUntyped files refusal →
       out ≡ [] → merr ≡ [] → KeepsFiles told now → TakesNothing input → Comes told now input out merr (CompileFiles names target arena) (refused_line names refusal) 2
   exec_exited : (name : List ℕ) (steps : ℕ) (file : List ℕ) (image : Image) (status : ℕ) → IsHeld told name file → meaning_of file ≡ Ok image → IsRun image input steps (Exited status) out merr →
       KeepsFiles told now → Comes told now input out merr (ExecFile name steps) (exit_line status) 0
@@ -86,6 +108,7 @@ pub data Comes (told now : Option Files) (input : Intake) (out merr : List ℕ) 
 pub data Midway (told : Option Files) (input : Intake) (out merr : List ℕ) : Job → Type 0 where
   running : (names : List (List ℕ)) (arena steps : ℕ) (files : List (List ℕ)) (text : List ℕ) (image : Image) → AreHeld told names files → Means files text → Compiles text image → IsMidway image input steps out merr →
       IsPrefix out text → merr ≡ [] → Midway told input out merr (RunFiles names arena steps)
+  program_running : (names : List (List ℕ)) (arena steps : ℕ) (files : List (List ℕ)) (image : Image) → AreHeld told names files → Becomes files arena image → IsMidway image input steps out merr → Midway told input out merr (RunFiles names arena steps)
   executing : (name : List ℕ) (steps : ℕ) (file : List ℕ) (image : Image) → IsHeld told name file → meaning_of file ≡ Ok image → IsMidway image input steps out merr → Midway told input out merr (ExecFile name steps)
 
 -- what was going on when a write on out failed: a run, or the text of types, of a plan or of a large program, of which a prefix was written
@@ -115,7 +138,7 @@ pub data Answers (words : List (List ℕ)) (told now : Option Files) (before aft
       IsSame before after → err ≡ line → Answers words told now before after input out err status
   not_loaded : (job : Job) (i : ℕ) → IsAsked words job → LoadsUpTo told (files_of job) i → Rose before.store after.store → out ≡ [] → KeepsFiles told now → TakesNothing input → Names before after (store_line (name_at (files_of job) i)) err →
       Answers words told now before after input out err 5
-  not_saved : (names files : List (List ℕ)) (target text : List ℕ) (arena : ℕ) (image : Image) → IsAsked words (CompileFiles names target arena) → AreHeld told names files → Means files text → Compiles text image →
+  not_saved : (names files : List (List ℕ)) (target : List ℕ) (arena : ℕ) (image : Image) → IsAsked words (CompileFiles names target arena) → AreHeld told names files → IsCompiled files arena image →
       Rose before.store after.store → out ≡ [] → ChangesOnly told now target → TakesNothing input → Names before after (store_line target) err →
       Answers words told now before after input out err 5
   input_failed : (job : Job) (merr front : List ℕ) → IsAsked words job → Rose before.input after.input → Midway told input out merr job → KeepsFiles told now →
@@ -135,7 +158,7 @@ pub data Performed (job : Job) (told now : Option Files) (before after : Tally) 
   fine : (o : Outcome) → Comes told now input out merr job (line_of (files_of job) (target_of job) o) (status_of o) → IsSame before after → Performed job told now before after input out merr o
   want : out ≡ [] → merr ≡ [] → KeepsFiles told now → TakesNothing input → IsSame before after → Performed job told now before after input out merr outcome.NoMemory
   load_failed : (i : ℕ) → LoadsUpTo told (files_of job) i → Fails before.store after.store → out ≡ [] → merr ≡ [] → KeepsFiles told now → TakesNothing input → before.err ≤ after.err → Performed job told now before after input out merr (outcome.LoadFault i)
-  save_failed : (names files : List (List ℕ)) (target text : List ℕ) (arena : ℕ) (image : Image) → job ≡ CompileFiles names target arena → AreHeld told names files → Means files text → Compiles text image →
+  save_failed : (names files : List (List ℕ)) (target : List ℕ) (arena : ℕ) (image : Image) → job ≡ CompileFiles names target arena → AreHeld told names files → IsCompiled files arena image →
       Fails before.store after.store → out ≡ [] → merr ≡ [] → ChangesOnly told now target → TakesNothing input → before.err ≤ after.err →
       Performed job told now before after input out merr outcome.SaveFault
   read_failed : Fails before.input after.input → before.err ≤ after.err → Midway told input out merr job → KeepsFiles told now → Performed job told now before after input out merr outcome.InputFault

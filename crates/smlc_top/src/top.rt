@@ -3,6 +3,7 @@
 ghost use Rattle.std.specs.Prelude.{◌≡◌, ◌≢◌, ◌≤◌, List, [], ℕ, Option, All, length, map, string_bytes, false};
 ghost use Rattle.smlc_jobs.specs.Job.{RunFiles, CompileFiles, ExecFile, TypesFiles, PlanFiles, GenText, IsAsked, IsInRange, Serves, job_of};
 ghost use Rattle.smlc_jobs.specs.Job.{Job as Wanted};
+ghost use Rattle.smlc_words.specs.Given.{IsArena};
 ghost use Rattle.smlc_jobs.specs.Outcome.{is_fault};
 ghost use Rattle.smlc_top.specs.Clause.{Answers, Performed};
 ghost use Rattle.smlc_edge.specs.Edge.{Files};
@@ -22,10 +23,11 @@ use std::alloc::Global;
 
 /// Does what the words say, and answers the status.
 ///
-/// `run FILE.. [--arena W] [--steps N]` compiles a program of prints and runs it, `compile FILE.. -o OUT [--arena W]` saves what was made as an ELF file, and
-/// `exec ELF [--steps N]` runs any ELF file that keeps to the system calls of the machine. `types FILE..` writes the types of a program's names, `plan FILE..` what its
-/// closures hold, and `gen NUMBER SIZE` a large program. What the program prints, the types and the plan go to `out`, and the line of the status to `err`. The status is 0 where all was done, 2 where the files were refused,
-/// 4 where so many instructions were done and the program goes on, 5 where the outside failed, 6 for want of memory, 7 where the words are no command,
+/// `run FILE.. [--arena W] [--steps N]` compiles a program and runs it, `compile FILE.. -o OUT [--arena W]` saves what was made as an ELF file, and
+/// `exec ELF [--steps N]` runs any ELF file that keeps to the system calls of the machine. `types FILE..` writes the types of a program's names, `plan FILE..`
+/// what its closures hold, and `gen NUMBER SIZE` a large program. What the program prints, the types and the plan go to `out`, and the line of the status to `err`.
+/// The status is 0 where all was done, 1 where the program ended by an exception that nothing handles, 2 where the files were refused, 3 where the program's arena was
+/// full, 4 where so many instructions were done and the program goes on, 5 where the outside failed, 6 for want of memory, 7 where the words are no command,
 /// 8 where the file is no ELF file that can be run, and 9 where the machine has no step.
 pub fn smlc_main<F: Store, I: Source, O: Sink, E: Sink>(
     alloc: Global,
@@ -119,7 +121,8 @@ fn run<F: Store, I: Source, O: Sink, E: Sink>(
     out: &mut O,
     err: &mut E,
 ) -> Outcome
-    requires { length names.now ≤ 256 }
+    requires few { length names.now ≤ 256 }
+    requires arena { IsArena arena }
     ensures performed { Came (O.taken out.old) (O.taken out.new) (E.taken err.old) (E.taken err.new) (λ wrote wrote_err.
         Performed (RunFiles (map (λ name. name.now) names.now) arena steps) (F.files store.old) (F.files store.new)
         (tally (F.faults store.old) (I.faults input.old) (O.faults out.old) (E.faults err.old))
@@ -127,7 +130,7 @@ fn run<F: Store, I: Source, O: Sink, E: Sink>(
     ensures sure { All (F.surely_loads store.old) (map (λ name. name.now) names.now) → I.sure input.old → O.sure out.old → E.sure err.old → (is_fault result ≡ false) × E.sure err.new }
 {
     match load_all(alloc, names, store) {
-        Loaded::Files(files) => match build(alloc, names, &files) {
+        Loaded::Files(files) => match build(alloc, names, &files, arena) {
             Built::Elf(bytes) => { ended(execute(alloc, &bytes, steps, input, out, err), arena) }
             Built::Refused(line) => Outcome::Refused(line),
             Built::NoMemory => Outcome::NoMemory,
@@ -145,13 +148,14 @@ fn compile<F: Store>(
     arena: u64,
     store: &mut F,
 ) -> Outcome
-    requires { length names.now ≤ 256 }
+    requires few { length names.now ≤ 256 }
+    requires arena { IsArena arena }
     ensures performed { (i o e : ℕ) (input : Option (List ℕ)) → Performed (CompileFiles (map (λ name. name.now) names.now) target.now arena) (F.files store.old) (F.files store.new)
         (tally (F.faults store.old) i o e) (tally (F.faults store.new) i o e) (intake input input) [] [] result }
     ensures sure { All (F.surely_loads store.old) (map (λ name. name.now) names.now) → F.surely_saves store.old target.now 8589934592 → is_fault result ≡ false }
 {
     match load_all(alloc, names, store) {
-        Loaded::Files(files) => match build(alloc, names, &files) {
+        Loaded::Files(files) => match build(alloc, names, &files, arena) {
             Built::Elf(bytes) => match store.save(target, &bytes) {
                 Ok(()) => Outcome::Done,
                 Err(_) => Outcome::SaveFault,

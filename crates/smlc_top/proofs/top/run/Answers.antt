@@ -6,11 +6,11 @@ use Rattle.smlc_jobs.specs.Outcome.{ended_outcome}
 use Rattle.smlc_top.specs.Clause.{Performed, want, load_failed}
 use Rattle.smlc_jobs.specs.Runs.{tally, intake}
 use Rattle.smlc_jobs.proofs.Faults.{came_none, came_so}
-use Rattle.smlc_top.proofs.Jobs.{run_executed, run_said}
+use Rattle.smlc_top.proofs.Jobs.{built_executed, run_said}
 use Rattle.smlc_top.proofs.top.run.Goals as goal
 
-pub build-requires : goal.build-requires
-build-requires g c =
+pub build-requires-clause-files : goal.build-requires-clause-files
+build-requires-clause-files g c =
     let l = c.in-Files.ensures.loaded in
     omega (arith, l.1, length-map c.args.names.now (λ x. x.now), ap length c.deref.ensures.value)
 
@@ -21,8 +21,8 @@ returns-in-Elf-clause-performed g c =
     let names = map (λ x. x.now) c.args.names.now in
     rw c.ended.ensures (came_so (g.O.Sink.taken c.args.out.now) (g.O.Sink.taken c.execute.new.out) (g.E.Sink.taken c.args.err.now) (g.E.Sink.taken c.execute.new.err) _ _
     (λ w e h. subst (λ (n : ℕ). Performed (RunFiles names c.args.arena c.args.steps) (g.F.Store.files c.args.store.now) (g.F.Store.files c.load_all.new.store) (tally (g.F.Store.faults c.args.store.now) (g.I.Source.faults c.args.input.now) (g.O.Sink.faults c.args.out.now) (g.E.Sink.faults c.args.err.now)) (tally n (g.I.Source.faults c.execute.new.input) (g.O.Sink.faults c.execute.new.out) (g.E.Sink.faults c.execute.new.err)) (intake (g.I.Source.left c.args.input.now) (g.I.Source.left c.execute.new.input)) w e (ended_outcome c.args.arena c.execute.result)) (sym l.3)
-    (run_executed names (g.F.Store.files c.args.store.now) (g.F.Store.files c.load_all.new.store) c.args.arena c.args.steps (map (λ x. x.items) c.in-Files.files.items) b.0 c.in-Elf.bytes.items (tally (g.F.Store.faults c.args.store.now) (g.I.Source.faults c.args.input.now) (g.O.Sink.faults c.args.out.now) (g.E.Sink.faults c.args.err.now)) (tally (g.F.Store.faults c.args.store.now) (g.I.Source.faults c.execute.new.input) (g.O.Sink.faults c.execute.new.out) (g.E.Sink.faults c.execute.new.err)) (intake (g.I.Source.left c.args.input.now) (g.I.Source.left c.execute.new.input)) w e c.execute.result
-    (λ files t. l.0 files t) (λ files t. l.2 files t) b.1 b.2 (rw c.deref-in-Elf.ensures.value at h)))
+    (built_executed names (g.F.Store.files c.args.store.now) (g.F.Store.files c.load_all.new.store) c.args.arena c.args.steps (map (λ x. x.items) c.in-Files.files.items) c.in-Elf.bytes.items (tally (g.F.Store.faults c.args.store.now) (g.I.Source.faults c.args.input.now) (g.O.Sink.faults c.args.out.now) (g.E.Sink.faults c.args.err.now)) (tally (g.F.Store.faults c.args.store.now) (g.I.Source.faults c.execute.new.input) (g.O.Sink.faults c.execute.new.out) (g.E.Sink.faults c.execute.new.err)) (intake (g.I.Source.left c.args.input.now) (g.I.Source.left c.execute.new.input)) w e c.execute.result
+    (λ files t. l.0 files t) (λ files t. l.2 files t) b (rw c.deref-in-Elf.ensures.value at h)))
     (c.execute.ensures.executed (g.F.Store.faults c.args.store.now)))
 
 pub returns-in-Refused-clause-performed : goal.returns-in-Refused-clause-performed
